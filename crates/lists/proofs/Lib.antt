@@ -1,0 +1,5 @@
+-- Laws of lists of numbers. Membership is a count, so that arithmetic decides most of it.
+pub mod Counts
+pub mod Sums
+pub mod Members
+pub mod Rounds
