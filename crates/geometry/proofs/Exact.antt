@@ -16,8 +16,8 @@ use lib.Ieee.Exact.{HasValue}
 use lib.Ieee.Back.{round-whole, whole-unique}
 use lib.Ieee.Scale.{round-same}
 use borrow.Author.Tests.{lt-ltb, le-ltb, eq-eqb, ne-eqb, ltb-true, ltb-false, eqb-true, eqb-false, leb-true, leb-false}
-use Rattle.geometry.specs.Coordinate.{signed, Whole, coordinate, value}
-use Rattle.geometry.proofs.Integers.{eqZ, add-parts, neg-plus, neg-minus, eq-of-parts, natAbs-add}
+use Rattle.geometry.specs.Coordinate.{eqZ, signed, Whole, coordinate, value}
+use Rattle.geometry.proofs.Integers.{add-parts, neg-plus, neg-minus, eq-of-parts, natAbs-add}
 
 -- ---- tests and rounding do not see a common factor
 
@@ -400,6 +400,10 @@ plain-is-ofInt {x} {z} p t h plain =
 -- the step of a fold: the sum so far is `ofInt` of an integer, and stays so
 pub add-ofInt : (a : ℤ) {y : Float} {b : ℤ} → natAbs a ≤ 2 ^ 53 → Whole y b → add binary64 (ofInt binary64 a) y ≡ ofInt binary64 (a +ℤ b)
 add-ofInt a h q = add-plain (whole-ofInt a h) q (ofInt-plain a h)
+
+-- and of one that takes away
+pub sub-ofInt : (a : ℤ) {y : Float} {b : ℤ} → natAbs a ≤ 2 ^ 53 → Whole y b → sub binary64 (ofInt binary64 a) y ≡ ofInt binary64 (a -ℤ b)
+sub-ofInt a h q = sub-plain (whole-ofInt a h) q (ofInt-plain a h)
 
 -- a fold from +0: exact, while the sizes of the terms add up to at most 2 ^ 53
 pub foldAdd : Float → List Float → Float

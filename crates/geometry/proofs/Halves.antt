@@ -15,8 +15,7 @@ use lib.Ieee.Fits.{down-pos}
 use lib.Ieee.Exact.{HasValue, round-exact}
 use lib.Ieee.Back.{round-whole}
 use lib.Ieee.Scale.{round-same}
-use Rattle.geometry.specs.Coordinate.{signed, Whole}
-use Rattle.geometry.proofs.Integers.{eqZ}
+use Rattle.geometry.specs.Coordinate.{eqZ, signed, Whole}
 use Rattle.geometry.proofs.Exact.{below-scale, level-scale, below-int, level-int, lt-or-eq, size-of, whole-ofInt}
 
 -- the float x is the fraction z / c

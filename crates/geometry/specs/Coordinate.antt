@@ -2,7 +2,7 @@
 use mathlib.Core.Path.{_≡_}
 use mathlib.Core.Bool.{Bool, true, false, _&&_, cond}
 use Prim.Native.Nat.{ℕ, _*_, _/_, _%_}
-use lib.IntN.{ℤ, pos, negℤ}
+use lib.IntN.{ℤ, pos, negsuc, negℤ}
 use lib.Dec.{eqb, leb}
 use lib.Ieee.{Float, nan, inf, fin, up, down, binary64, eq, toBits}
 use lib.Ieee.Exact.{HasValue}
@@ -15,6 +15,13 @@ coordinateBound = 1048576
 abbrev pub signed : Bool → ℕ → ℤ
 signed false n = pos n
 signed true n = negℤ (pos n)
+
+-- whether two integers are equal
+abbrev pub eqZ : ℤ → ℤ → Bool
+eqZ (pos a) (pos b) = eqb a b
+eqZ (pos a) (negsuc b) = false
+eqZ (negsuc a) (pos b) = false
+eqZ (negsuc a) (negsuc b) = eqb a b
 
 -- A whole number from -bound to bound; -0.0 is one. (The finite float s, m, e is m times 2 to the power e, which is m * up e / down e.)
 unfoldable pub coordinate : ℕ → Float → Bool

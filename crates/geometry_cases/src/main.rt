@@ -70,15 +70,27 @@ fn coordinates() {
 
 fn main() {
     coordinates();
-    compare(b"(2,1) (1,2): quadrant 0 before 1", at(2.0, 1.0), at(1.0, 2.0));
-    compare(b"(1,0) (0,1): quadrant 3 behind 2", at(1.0, 0.0), at(0.0, 1.0));
+    compare(
+        b"(2,1) (1,2): quadrant 0 before 1",
+        at(2.0, 1.0),
+        at(1.0, 2.0),
+    );
+    compare(
+        b"(1,0) (0,1): quadrant 3 behind 2",
+        at(1.0, 0.0),
+        at(0.0, 1.0),
+    );
     compare(b"(3,2) (2,3): counterclockwise", at(3.0, 2.0), at(2.0, 3.0));
     compare(b"(2,3) (3,2): clockwise", at(2.0, 3.0), at(3.0, 2.0));
     compare(b"(2,2) (4,4): nearer", at(2.0, 2.0), at(4.0, 4.0));
     compare(b"(4,4) (2,2): farther", at(4.0, 4.0), at(2.0, 2.0));
     compare(b"(2,2) (2,2): the same", at(2.0, 2.0), at(2.0, 2.0));
     compare(b"(0.0,1) (-0.0,1): one point", at(0.0, 1.0), at(-0.0, 1.0));
-    compare(b"(1,1) (1,0): the centre is in quadrant 3", at(1.0, 1.0), at(1.0, 0.0));
+    compare(
+        b"(1,1) (1,0): the centre is in quadrant 3",
+        at(1.0, 1.0),
+        at(1.0, 0.0),
+    );
     compare(
         b"far corners: exact",
         at(1048576.0, 1048575.0),

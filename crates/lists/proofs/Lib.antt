@@ -3,3 +3,4 @@ pub mod Counts
 pub mod Sums
 pub mod Members
 pub mod Rounds
+pub mod Sorting

@@ -1,0 +1,51 @@
+-- lists of numbers, by how often each stands in them
+-- the cycles of a function that permutes the active half-edges
+pub mod Walks
+pub mod CycleLaws
+pub mod Partition
+pub mod LabelLaws
+pub mod Permuting
+-- procedures that walk and mark
+pub mod Marking
+pub mod Sweep
+pub mod Naming
+-- half-edges, successors, splitting, rings
+pub mod Twin
+pub mod RingSums
+pub mod Successor
+pub mod Scans
+pub mod Splitting
+pub mod Rings
+pub mod Counting
+pub mod Agreement
+-- states, replies, sketches, and what the two claims come from
+pub mod Soundness
+pub mod Tables
+pub mod Replies
+pub mod PointLaws
+pub mod Sketches
+pub mod SketchCalls
+pub mod Claims
+pub mod Areas
+-- the tables follow the sketch, call by call
+pub mod Following
+pub mod Pruning
+pub mod FollowingPrune
+pub mod Sorting
+pub mod Simple
+pub mod Finding
+pub mod Growing
+pub mod Joining
+pub mod Additions
+pub mod Histories
+-- what pruning leaves
+pub mod Dangles
+pub mod PruneEnds
+pub mod PrunedTables
+-- pieces: nodes that paths join, and their numbers
+pub mod Values
+pub mod Spreading
+pub mod Roots
+pub mod PieceCounts
+pub mod Orders
+pub mod PieceNumbers

@@ -1,0 +1,21 @@
+-- The rules of document 01 as definitions. Read in this order.
+pub mod Limits
+pub mod HalfEdge
+pub mod Keys
+pub mod Angle
+pub mod Cycles
+pub mod Sane
+pub mod Split
+pub mod Prune
+pub mod Euler
+pub mod Paths
+pub mod Face
+pub mod State
+pub mod Pieces
+pub mod Adding
+pub mod Stages
+pub mod Ringing
+pub mod SegmentFile
+pub mod Sketch
+pub mod Claim
+pub mod Worked
