@@ -4,3 +4,5 @@ pub mod Sums
 pub mod Members
 pub mod Rounds
 pub mod Sorting
+pub mod Searching
+pub mod Passing

@@ -13,6 +13,7 @@ use borrow.Author.Tests.{eqb-true, eqb-false, not-true}
 use Rattle.lists.specs.Lists.{keep, pick, countOf, In, Distinct}
 use Rattle.rules.specs.HalfEdge.{twin, edgeOf}
 use Rattle.rules.specs.Prune.{Pruning, firstActive, push, pop, takeIf, takeFrom, turns}
+use Rattle.rules.specs.Counted.{unmarked, Stars, Counted}
 use Rattle.lists.proofs.Counts.{by-test, by-eq, bit-same, bit-other, true-is-false, in-head, in-tail, in-cons}
 use Rattle.lists.proofs.Members.{pick-in, pick-without}
 use Rattle.lists.proofs.Sums.{pigeonhole}
@@ -20,30 +21,6 @@ use Rattle.rules.proofs.Twin.{twin-other, twin-below, edge-below, edge-
 use Rattle.rules.proofs.Pruning.{paired, paired-first, paired-second, paired-other, twins-paired}
 
 -- ---- what is kept
-
--- a half-edge is not marked, as a test
-abbrev pub unmarked : List Bool → ℕ → Bool
-unmarked marks h = not (getD marks h true)
-
--- a star lists the half-edges that start at its node, each once, and no other
-pub record Stars (n e : ℕ) (star : ℕ → List ℕ) (origin : ℕ → ℕ) : Type 0 where
-  pub begins : (h : ℕ) → h < 2 * e → origin h < n
-  pub has : (h : ℕ) → h < 2 * e → In h (star (origin h))
-  pub only : (i h : ℕ) → i < n → In h (star i) → (h < 2 * e) × (origin h ≡ i)
-  pub once : (i : ℕ) → i < n → Distinct (star i)
-
--- the tables count right
-pub record Counted (n e : ℕ) (star : ℕ → List ℕ) (degrees : List ℕ) (nodeMarks halfMarks : List Bool) : Type 0 where
-  -- every node and half-edge has its entries
-  pub degreeRoom : n ≤ length degrees
-  pub nodeRoom : n ≤ length nodeMarks
-  pub halfRoom : 2 * e ≤ length halfMarks
-  -- the degree of a node is the number of unmarked half-edges in its star
-  pub counts : (i : ℕ) → i < n → getD degrees i 0 ≡ length (pick (unmarked halfMarks) (star i))
-  -- a marked node has none
-  pub idle : (i : ℕ) → i < n → getD nodeMarks i false ≡ true → getD degrees i 0 ≡ 0
-  -- twins are marked alike
-  pub twins : (h : ℕ) → h < 2 * e → getD halfMarks (twin h) true ≡ getD halfMarks h true
 
 -- the edges found are those marked since the marks were `old`
 pub record Found (e : ℕ) (old halfMarks : List Bool) (found : List ℕ) : Type 0 where

@@ -49,3 +49,6 @@ pub mod Roots
 pub mod PieceCounts
 pub mod Orders
 pub mod PieceNumbers
+-- a state stays sound through an addition
+pub mod Sounding
+pub mod AddingSound

@@ -7,6 +7,7 @@ use mathlib.Core.List.{List, [], _∷_}
 use lib.ListN.{length, getD}
 use Rattle.lists.specs.Lists.{pick}
 use Rattle.rules.specs.Cycles.{activeStar}
+use Rattle.rules.specs.Counted.{unmarked, Stars, Counted}
 use Rattle.rules.specs.Limits.{Limits}
 use Rattle.rules.specs.State.{State, starOf, arrangement, soundCoordinates}
 use Rattle.rules.specs.Stages.{next, pruned}
@@ -16,7 +17,6 @@ use Rattle.rules.proofs.Twin.{twin-first}
 use Rattle.rules.proofs.Soundness.{Roomy, Sound}
 use Rattle.rules.proofs.Tables.{star-of-in, star-has, star-of-distinct, source-below, marks-alike}
 use Rattle.rules.proofs.Pruning.{pruned-is, prune-size, prune-degrees-size, prune-halves-size}
-use Rattle.rules.proofs.Dangles.{unmarked, Stars, Counted}
 use Rattle.rules.proofs.PruneEnds.{Pruned, prune-leaves}
 
 -- what is not marked is so whatever stands past the end

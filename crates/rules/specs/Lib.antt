@@ -7,6 +7,7 @@ pub mod Cycles
 pub mod Sane
 pub mod Split
 pub mod Prune
+pub mod Counted
 pub mod Euler
 pub mod Paths
 pub mod Face

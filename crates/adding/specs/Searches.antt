@@ -1,0 +1,42 @@
+-- The searches of an addition, over the lists that they read.
+use Prim.Native.Nat.{ℕ, suc, _*_, _<_, _≤_}
+use mathlib.Core.Bool.{cond, _&&_}
+use mathlib.Core.List.{List}
+use lib.Dec.{eqb}
+use lib.Ieee.{Float}
+use lib.ListN.{length, getD, take}
+use Rattle.lists.specs.Lists.{upto, firstWhere}
+use Rattle.geometry.specs.declared.Line3D.{Line3D}
+use Rattle.rotation.specs.Rotation.{Key, keySame}
+use Rattle.rules.specs.Keys.{keyOf}
+use Rattle.rules.specs.State.{starIn, keyIn}
+use Rattle.adding.specs.declared.Ends.{Ends}
+
+-- the lowest node with the key, or the node count
+abbrev pub findNodeIn : ℕ → List Float → List Float → Key → ℕ
+findNodeIn nodes xs ys k = firstWhere (λ n. keySame (keyIn xs ys n) k) nodes (upto nodes)
+
+-- the first half-edge of u's star that ends at v, or the number of half-edges
+abbrev pub findHalfIn : ℕ → List ℕ → List ℕ → List ℕ → ℕ → ℕ → ℕ
+findHalfIn edges source target star u v = firstWhere (λ h. eqb (getD target h 0) v) (2 * edges) (starIn source (take (2 * edges) star) u)
+
+-- the nodes of a line's ends: found, or the next ones, the start's first
+abbrev pub endsIn : Line3D → ℕ → List Float → List Float → Ends
+endsIn g nodes xs ys =
+    let u = findNodeIn nodes xs ys (keyOf (g .start .x) (g .start .y)) in
+    let w = findNodeIn nodes xs ys (keyOf (g .end .x) (g .end .y)) in
+    record {
+      start = record { 0 = u };
+      end = record { 0 = cond (eqb u nodes && eqb w nodes) (suc nodes) w };
+      «new_start» = eqb u nodes;
+      «new_end» = eqb w nodes;
+    }
+
+-- what the searches ask of the lists: room for the counts, and star entries that are half-edges of the tables
+pub record Searchable (nodes edges : ℕ) (xs ys : List Float) (source target star : List ℕ) : Type 0 where
+  pub fewNodes : nodes ≤ 1024
+  pub fewEdges : edges ≤ 1024
+  pub roomX : nodes ≤ length xs
+  pub roomY : nodes ≤ length ys
+  pub roomStar : 2 * edges ≤ length star
+  pub known : (i : ℕ) → i < 2 * edges → (getD star i 0 < length source) × (getD star i 0 < length target)

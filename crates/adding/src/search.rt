@@ -1,0 +1,85 @@
+// The search for a node by its key and for a half-edge by its ends.
+ghost use mathlib.Core.Path.{_≡_};
+ghost use mathlib.Core.Bool.{_&&_};
+ghost use Prim.Native.Nat.{ℕ, _+_, _*_, _<_, _≤_};
+ghost use lib.Dec.{eqb};
+ghost use lib.ListN.{length, getD};
+ghost use Rattle.rotation.specs.Rotation.{keySame};
+ghost use Rattle.rules.specs.Keys.{keyOf};
+ghost use Rattle.rules.specs.State.{keyIn};
+ghost use Rattle.adding.specs.Searches.{findNodeIn, findHalfIn};
+use geometry::Coord3D;
+use tables::DirEdgeId;
+use tables::NodeId;
+use tables::PlanarGraph;
+
+// A number of a table as an index.
+pub fn wide(n: u16) -> usize
+    ensures { λ r. ⌜ r ≡ n ⌝ }
+{
+    n as usize
+}
+
+// Whether the node at an index has the bits of a point's x and y.
+fn has_key(nodes_x: &[f64], nodes_y: &[f64], n: usize, bits_x: u64, bits_y: u64) -> bool
+    requires { ⌜ (n < length (now «nodes_x»)) × (n < length (now «nodes_y»)) ⌝ }
+    ensures { λ r. ⌜ r ≡ keySame (keyIn (now («nodes_x» .entry)) (now («nodes_y» .entry)) n) (record { x = «bits_x»; y = «bits_y» }) ⌝ }
+{
+    geometry::canonical_coordinate_bits(nodes_x[n]) == bits_x
+        && geometry::canonical_coordinate_bits(nodes_y[n]) == bits_y
+}
+
+// The lowest node with the point's key, or the node count. The Rust asks a hash map; here every
+// node is looked at, and the point's bits are worked out once.
+pub fn find_node(graph: PlanarGraph, nodes_x: &[f64], nodes_y: &[f64], point: Coord3D) -> NodeId
+    requires { ⌜ (graph .«node_count» ≤ length (now «nodes_x»)) × (graph .«node_count» ≤ length (now «nodes_y»)) ⌝ }
+    ensures { λ r. ⌜ r .0 ≡ findNodeIn (graph .«node_count») (now («nodes_x» .entry)) (now («nodes_y» .entry)) (keyOf (point .x) (point .y)) ⌝ }
+{
+    let bits_x = geometry::canonical_coordinate_bits(point.x);
+    let bits_y = geometry::canonical_coordinate_bits(point.y);
+    let count = graph.node_count;
+    let mut n: u16 = 0;
+    while n < count {
+        if has_key(nodes_x, nodes_y, wide(n), bits_x, bits_y) {
+            return NodeId(n);
+        }
+        n += 1;
+    }
+    NodeId(count)
+}
+
+// Whether a half-edge goes from node u to node v.
+fn goes(dir_edges_src: &[u16], dir_edges_dst: &[u16], h: usize, u: u16, v: u16) -> bool
+    requires { ⌜ (h < length (now «dir_edges_src»)) × (h < length (now «dir_edges_dst»)) ⌝ }
+    ensures { λ r. ⌜ r ≡ (eqb (getD (now («dir_edges_src» .entry)) h 0) u && eqb (getD (now («dir_edges_dst» .entry)) h 0) v) ⌝ }
+{
+    dir_edges_src[h] == u && dir_edges_dst[h] == v
+}
+
+// The first half-edge of u's star that ends at v, or the number of half-edges. The star is what of
+// the flat table starts at u, so both ends are tested as the table is walked.
+pub fn find_half(
+    graph: PlanarGraph,
+    dir_edges_src: &[u16],
+    dir_edges_dst: &[u16],
+    nodes_outgoing: &[u16],
+    u: NodeId,
+    v: NodeId,
+) -> DirEdgeId
+    requires { ⌜ (graph .«edge_count» ≤ 1024) × (2 * graph .«edge_count» ≤ length (now «nodes_outgoing»)) ⌝ }
+    requires { ⌜ ((i : ℕ) → i < 2 * graph .«edge_count» → (getD (now «nodes_outgoing») i 0 < length (now «dir_edges_src»)) × (getD (now «nodes_outgoing») i 0 < length (now «dir_edges_dst»))) ⌝ }
+    ensures { λ r. ⌜ r .0 ≡ findHalfIn (graph .«edge_count») (now («dir_edges_src» .entry)) (now («dir_edges_dst» .entry)) (now («nodes_outgoing» .entry)) (u .0) (v .0) ⌝ }
+{
+    let count = 2 * graph.edge_count;
+    let from = u.0;
+    let to = v.0;
+    let mut i: u16 = 0;
+    while i < count {
+        let h = nodes_outgoing[wide(i)];
+        if goes(dir_edges_src, dir_edges_dst, wide(h), from, to) {
+            return DirEdgeId(h);
+        }
+        i += 1;
+    }
+    DirEdgeId(count)
+}

@@ -1,0 +1,35 @@
+-- Entries of lists, and lists written over the front of another.
+use Prim.Native.Nat.{ℕ, zero, suc, _+_, _<_, _≤_}
+use native.Mathlib.Omega.{arith}
+use mathlib.Core.Path.{_≡_, refl, sym, ap, _∙_}
+use mathlib.Core.List.{List, [], _∷_, _++_, append-assoc}
+use lib.ListN.{length, getD, set, drop, replicate, length-append, length-drop, length-replicate, replicate-append-replicate}
+use lib.Seq.{drop-cons, set-append-seam}
+use Rattle.lists.specs.Lists.{over}
+
+-- within the list the default does not matter
+pub getD-any : {A : Type 0} (l : List A) (i : ℕ) (d e : A) → i < length l → getD l i d ≡ getD l i e
+getD-any [] i d e h = absurd (omega arith)
+getD-any (x ∷ l) zero d e h = refl
+getD-any (x ∷ l) (suc i) d e h = getD-any l i d e (omega arith)
+
+-- writing over keeps the length
+pub length-over : (xs out : List ℕ) → length xs ≤ length out → length (over xs out) ≡ length out
+length-over xs out h = omega (arith, length-append xs (drop (length xs) out), length-drop (length xs) out)
+
+-- one entry more
+pub over-set : (xs out : List ℕ) (a : ℕ) → length xs < length out → set (over xs out) (length xs) a ≡ over (xs ++ (a ∷ [])) out
+over-set xs out a h =
+    let n : length (xs ++ (a ∷ [])) ≡ suc (length xs) = omega (arith, length-append xs (a ∷ [])) in
+    ap (λ r. set (xs ++ r) (length xs) a) (drop-cons out (length xs) 0 h)
+    ∙ set-append-seam xs (getD out (length xs) 0) (drop (suc (length xs)) out) a
+    ∙ sym (append-assoc xs (a ∷ []) (drop (suc (length xs)) out))
+    ∙ ap (λ k. (xs ++ (a ∷ [])) ++ drop k out) (sym n)
+
+-- one zero more
+pub over-zeros : (i : ℕ) (out : List ℕ) → i < length out → set (over (replicate i 0) out) i 0 ≡ over (replicate (i + 1) 0) out
+over-zeros i out h =
+    let n : length (replicate {A = ℕ} i 0) ≡ i = length-replicate {A = ℕ} i 0 in
+    ap (λ k. set (over (replicate i 0) out) k 0) (sym n)
+    ∙ over-set (replicate i 0) out 0 (omega arith)
+    ∙ ap (λ r. over r out) (replicate-append-replicate i 1 0)

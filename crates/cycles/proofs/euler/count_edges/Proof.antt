@@ -1,0 +1,103 @@
+-- `cycles::euler::count_edges` meets its contract. The invariant: the active ones of the first k edges are counted.
+use Prim.Native.Nat.{ℕ, _+_, _-_, _*_, _≤_}
+use native.Mathlib.Omega.{arith}
+use native.Mathlib.Numerals.{add-one}
+use borrow.Author.Needs.{needs}
+use mathlib.Core.Path.{_≡_, refl, ap, _∙_}
+use mathlib.Core.Logic.{⊎-elim}
+use mathlib.Core.Bool.{Bool, true, false, not, _&&_}
+use lib.ListN.{length, getD}
+use Rattle.lists.specs.Lists.{below, bit}
+use Rattle.lists.proofs.Counts.{length-below}
+use Rattle.rules.proofs.Values.{both-true}
+use Rattle.cycles.specs.Groups.{unmarked}
+use Rattle.cycles.proofs.Entries.{getD-any}
+use Rattle.cycles.proofs.euler.count_edges.Statement.{statement}
+use Rattle.cycles.proofs.euler.count_edges.Tie as tie
+
+abbrev Inv-loop : tie.InvT-loop
+Inv-loop edges dir-edges-marked n count₀ k₀ count k =
+    (k ≤ n) × (count ≤ k) × (count ≡ length (below (λ j. unmarked dir-edges-marked (2 * j) && unmarked dir-edges-marked (2 * j + 1)) k))
+
+abbrev μ-loop : tie.MeasureT-loop
+μ-loop edges dir-edges-marked n count₀ k₀ count k = n - k
+
+wide-requires : tie.Need-wide-requires Inv-loop μ-loop
+wide-requires c κs = search needs
+
+loop-holds : tie.Need-loop-holds Inv-loop μ-loop
+loop-holds c = (omega arith, omega arith, refl)
+
+mul-if1 : tie.Need-mul-if1 Inv-loop μ-loop
+mul-if1 c = omega arith
+
+shared-slice-read-if1 : tie.Need-shared-slice-read-if1 Inv-loop μ-loop
+shared-slice-read-if1 c = omega arith
+
+mul-if2 : tie.Need-mul-if2 Inv-loop μ-loop
+mul-if2 c = omega arith
+
+add-if2 : tie.Need-add-if2 Inv-loop μ-loop
+add-if2 c = omega arith
+
+shared-slice-read-if2 : tie.Need-shared-slice-read-if2 Inv-loop μ-loop
+shared-slice-read-if2 c = omega arith
+
+add-count : tie.Need-add-count Inv-loop μ-loop
+add-count c = omega arith
+
+add-k : tie.Need-add-k Inv-loop μ-loop
+add-k c = omega arith
+
+loop-less : tie.Need-loop-less Inv-loop μ-loop
+loop-less c = omega arith
+
+loop-again : tie.Need-loop-again Inv-loop μ-loop
+loop-again c =
+    let s = c .before .before .before .before .before .before in
+    let q = c .before .before .before .loop in
+    let m = s .args .dir-edges-marked .now in
+    let t : ℕ → Bool = λ j. unmarked m (2 * j) && unmarked m (2 * j + 1) in
+    let w : c .before .before .before .before .wide .result ≡ s .args .edges = c .before .before .before .before .wide .ensures in
+    let a : unmarked m (2 * q .k) ≡ not (getD m (2 * q .k) false) = ap not (getD-any m (2 * q .k) true false (omega (arith, s .pre .1))) in
+    let b : unmarked m (2 * q .k + 1) ≡ not (getD m (2 * q .k + 1) false) = ap not (getD-any m (2 * q .k + 1) true false (omega (arith, s .pre .1))) in
+    let one : length (below t (q .k + 1)) ≡ length (below t (q .k)) + bit (t (q .k)) = ap (λ k. length (below t k)) (add-one (q .k)) ∙ length-below t (q .k) in
+    ⊎-elim
+    (λ v.
+    let e : t (q .k) ≡ true = both-true (unmarked m (2 * q .k)) (unmarked m (2 * q .k + 1)) (a ∙ v .0 .taken) (b ∙ v .2 .taken) in
+    (omega arith, omega (arith, v .3), omega (arith, v .3, q .inv .2, one, ap bit e)))
+    (⊎-elim
+    (λ v.
+    let e : t (q .k) ≡ false = rw (a ∙ v .0 .taken, b ∙ v .2 .left) in
+    (omega arith, omega (arith, v .3), omega (arith, v .3, q .inv .2, one, ap bit e)))
+    (λ v.
+    let e : t (q .k) ≡ false = rw (a ∙ v .0 .left) in
+    (omega arith, omega (arith, v .1), omega (arith, v .1, q .inv .2, one, ap bit e))))
+    (c .if1 .came)
+
+returns : tie.Need-returns Inv-loop μ-loop
+returns c =
+    let s = c .before .before .before .before in
+    let q = c .before .loop in
+    let m = s .args .dir-edges-marked .now in
+    let e : q .k ≡ s .args .edges = omega (arith, c .before .before .wide .ensures) in
+    q .inv .2 ∙ ap (λ k. length (below (λ j. unmarked m (2 * j) && unmarked m (2 * j + 1)) k)) e
+
+pub count-edges-spec : {M : Type 1} → statement M
+count-edges-spec =
+    tie.close
+    (tie.spec
+    Inv-loop
+    μ-loop
+    wide-requires
+    loop-holds
+    mul-if1
+    shared-slice-read-if1
+    mul-if2
+    add-if2
+    shared-slice-read-if2
+    add-count
+    add-k
+    loop-less
+    loop-again
+    returns)

@@ -1,0 +1,73 @@
+// The cycles of an arrangement of half-edges: links and successors, maximal rings and their labels,
+// cut edges, and Euler's census. Carried over from planar_graph.rs.
+mod cuts;
+mod euler;
+mod labels;
+mod links;
+mod pieces;
+mod reads;
+
+pub use cuts::cut_edges;
+pub use euler::count_census;
+pub use labels::label_rings;
+pub use links::link_successors;
+pub use pieces::count_pieces;
+ghost use Prim.Native.Nat.{_≤_};
+ghost use lib.ListN.{length};
+ghost use Rattle.rules.specs.Limits.{limits};
+ghost use Rattle.cycles.specs.Groups.{InEach};
+ghost use Rattle.cycles.specs.Arranged.{Arranged, CutOf};
+
+// What cutting and ring extraction count: V, E, the maximal rings, C, and whether Euler's formula
+// holds of them.
+pub struct Census {
+    pub vertices: u16,
+    pub edges: u16,
+    pub cycles: u16,
+    pub pieces: u16,
+    pub verdict: bool,
+}
+
+// What cutting answers: the graph in its next stage, how many edges were cut, and the census taken
+// before that.
+pub struct CutDone {
+    pub graph: tables::PlanarGraph,
+    pub count: u16,
+    pub census: Census,
+}
+
+// Cutting over stars that are grouped by node.
+pub fn cut_grouped(
+    graph: tables::PlanarGraph,
+    offsets: &[u16],
+    grouped: &[u16],
+    dir_edges_src: &[u16],
+    dir_edges_marked: &mut [bool],
+    out: &mut [u16],
+) -> CutDone
+    requires { ⌜ (Arranged limits (graph .«node_count») (graph .«edge_count») (now «dir_edges_src») (now «dir_edges_marked») (now offsets) (now grouped)) × (graph .«edge_count» ≤ length (now out)) ⌝ }
+    ensures { λ r. ⌜ InEach (graph .«node_count») (graph .«edge_count») (now («dir_edges_src» .entry)) (now («dir_edges_marked» .entry)) (now (offsets .entry)) (now (grouped .entry)) (λ g. CutOf g graph (now («dir_edges_marked» .entry)) (now (out .entry)) (now («dir_edges_marked» .exit)) (now (out .exit)) r) ⌝ }
+{
+    let mut next = [0u16; 2048];
+    let mut labels = [0u16; 2048];
+    links::link_successors(graph, offsets, grouped, dir_edges_marked, &mut next);
+    let cycles = labels::label_rings(graph.edge_count, &next, dir_edges_marked, &mut labels);
+    let census = euler::count_census(
+        graph,
+        offsets,
+        grouped,
+        dir_edges_src,
+        dir_edges_marked,
+        cycles,
+    );
+    let count = cuts::cut_edges(graph.edge_count, &labels, dir_edges_marked, out);
+    CutDone {
+        graph: tables::PlanarGraph {
+            node_count: graph.node_count,
+            edge_count: graph.edge_count,
+            stage: 3,
+        },
+        count,
+        census,
+    }
+}

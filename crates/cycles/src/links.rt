@@ -1,0 +1,69 @@
+// Links: the active half-edge before each one in its star, cyclically.
+ghost use mathlib.Core.Path.{_≡_};
+ghost use Prim.Native.Nat.{ℕ, _*_, _<_, _≤_};
+ghost use lib.ListN.{length};
+ghost use Rattle.lists.specs.Lists.{In, pick, lastOf};
+ghost use Rattle.rules.specs.HalfEdge.{twin};
+ghost use Rattle.cycles.specs.Groups.{unmarked, part, PartWithin, GroupsWithin};
+ghost use Rattle.cycles.specs.Links.{linkStar, Linked};
+use super::reads::is_active;
+use super::reads::wide;
+
+// The last active half-edge of a star, or 0 where there is none.
+fn last_active(grouped: &[u16], from: usize, to: usize, dir_edges_marked: &[bool]) -> u16
+    requires { ⌜ PartWithin (length (now «dir_edges_marked»)) from to (now grouped) ⌝ }
+    ensures { λ r. ⌜ r ≡ lastOf 0 (pick (unmarked (now («dir_edges_marked» .entry))) (part from to (now (grouped .entry)))) ⌝ }
+{
+    let mut last = 0;
+    let mut i = from;
+    while i < to {
+        let h = grouped[i];
+        if is_active(dir_edges_marked, h) {
+            last = h;
+        }
+        i += 1;
+    }
+    last
+}
+
+// The twin of each active half-edge of a star is followed by the active one before it.
+fn link_star(grouped: &[u16], from: usize, to: usize, dir_edges_marked: &[bool], next: &mut [u16])
+    requires { ⌜ (PartWithin (length (now «dir_edges_marked»)) from to (now grouped)) × ((h : ℕ) → In h (part from to (now grouped)) → twin h < length (now next)) ⌝ }
+    ensures { λ _. ⌜ now (next .exit) ≡ linkStar (unmarked (now («dir_edges_marked» .entry))) (part from to (now (grouped .entry))) (now (next .entry)) ⌝ }
+{
+    let mut previous = last_active(grouped, from, to, dir_edges_marked);
+    let mut i = from;
+    while i < to {
+        let h = grouped[i];
+        if is_active(dir_edges_marked, h) {
+            next[wide(rules::twin_of(h))] = previous;
+            previous = h;
+        }
+        i += 1;
+    }
+}
+
+// The successor of every active half-edge, star by star.
+pub fn link_successors(
+    graph: tables::PlanarGraph,
+    offsets: &[u16],
+    grouped: &[u16],
+    dir_edges_marked: &[bool],
+    next: &mut [u16],
+)
+    requires { ⌜ (GroupsWithin (graph .«node_count») (2 * graph .«edge_count») (now offsets) (now grouped)) × (2 * graph .«edge_count» ≤ length (now «dir_edges_marked»)) × (2 * graph .«edge_count» ≤ length (now next)) ⌝ }
+    ensures { λ _. ⌜ Linked (graph .«node_count») (graph .«edge_count») (now («dir_edges_marked» .entry)) (now (offsets .entry)) (now (grouped .entry)) (now (next .exit)) ⌝ }
+{
+    let nodes = wide(graph.node_count);
+    let mut n = 0;
+    while n < nodes {
+        link_star(
+            grouped,
+            wide(offsets[n]),
+            wide(offsets[n + 1]),
+            dir_edges_marked,
+            next,
+        );
+        n += 1;
+    }
+}

@@ -1,0 +1,192 @@
+-- The lists as the code fills them: their rings are those of the tables, and the places of these in order are their face numbers.
+use mathlib.Core.Path.{_≡_, refl, sym, ap, ap₂, subst, _∙_}
+use mathlib.Core.Bool.{Bool}
+use mathlib.Core.List.{List, [], _∷_, map}
+use Prim.Native.Nat.{ℕ, zero, suc, _+_, _≤_, _<_}
+use native.Mathlib.Omega.{arith}
+use lib.ListN.{length, getD, take, drop, length-append, length-drop, length-map, List·getD-append}
+use lib.Seq.{take-append-le, drop-append-le, ext-getD}
+use lib.Ieee.{Float, nan}
+use Rattle.lists.specs.Lists.{upto, pick, In, over}
+use Rattle.lists.proofs.Counts.{by-test, in-head, in-tail}
+use Rattle.lists.proofs.Members.{length-upto}
+use Rattle.rotation.specs.Rotation.{Key, rotated, keysOf, leastRotation}
+use Rattle.rotation.proofs.Keys.{length-keys}
+use Rattle.rotation.proofs.Least.{least-rotation}
+use Rattle.rules.specs.Face.{Ring, doubledArea, faceKey, faceBefore, howMany, faceNumber, ringOf}
+use Rattle.rules.specs.Keys.{keyOf}
+use Rattle.rules.specs.Limits.{Limits}
+use Rattle.rules.specs.State.{State, arrangement, pointOf, nodeKey, pointIn, keyIn}
+use Rattle.faces.specs.Listed.{partOf, HalfOf, Listed, listed, ringIn, Stands, AllStand}
+use Rattle.faces.specs.Keys.{bitsFrom, turnOf}
+use Rattle.faces.specs.Order.{before, inOrder}
+use Rattle.faces.specs.Numbers.{indexOf, origins, ringAt, ringsAt, faceNumbers, Numberable}
+use Rattle.faces.proofs.Rows.{map-at, map-upto-at}
+use Rattle.faces.proofs.KeyLists.{length-part, keys-part}
+use Rattle.faces.proofs.Places.{index-sorted, upto-below}
+use Rattle.faces.proofs.Rings.{doubled-half, before-order}
+
+-- ---- how many come before
+
+-- rings that pass a test are numbers of rings that do
+how-many : (q : Ring → Bool) (R : ℕ → Ring) (l : List ℕ) → howMany q (map R l) ≡ length (pick (λ j. q (R j)) l)
+how-many q R [] = refl
+how-many q R (x ∷ l) = by-test (q (R x)) (λ e. rw e (omega (arith, how-many q R l))) (λ e. rw e (omega (arith, how-many q R l)))
+
+-- tests that agree on the members pick the same
+pick-agree : (p q : ℕ → Bool) (l : List ℕ) → ((x : ℕ) → In x l → p x ≡ q x) → pick p l ≡ pick q l
+pick-agree p q [] e = refl
+pick-agree p q (x ∷ l) e = rw (e x (in-head x x l refl), pick-agree p q l (λ y m. e y (in-tail y x l m)))
+
+-- two rows of numbers, the one by way of rings
+row-same : (f : ℕ → ℕ) (F : Ring → ℕ) (R : ℕ → Ring) (n : ℕ) → ((i : ℕ) → i < n → f i ≡ F (R i)) → map f (upto n) ≡ map F (map R (upto n))
+row-same f F R n e =
+    let a : length (map f (upto n)) ≡ n = length-map (upto n) f ∙ length-upto n in
+    let b : length (map R (upto n)) ≡ n = length-map (upto n) R ∙ length-upto n in
+    ext-getD 0 (map f (upto n)) (map F (map R (upto n))) (a ∙ sym (length-map (map R (upto n)) F ∙ b))
+    (λ i h.
+    let g : i < n = omega arith in
+    map-upto-at f n i 0 g ∙ e i g ∙ ap F (sym (map-upto-at R n i (R 0) g)) ∙ sym (map-at F (map R (upto n)) i (R 0) 0 (omega arith)))
+
+-- ---- the lists as the code fills them
+
+-- past some entries of a row that was made by a function
+map-drop : (f : ℕ → ℕ) (n : ℕ) (l : List ℕ) → drop n (map f l) ≡ map f (drop n l)
+map-drop f zero l = refl
+map-drop f (suc n) [] = refl
+map-drop f (suc n) (x ∷ l) = map-drop f n l
+
+-- the first of them
+map-take : (f : ℕ → ℕ) (n : ℕ) (l : List ℕ) → take n (map f l) ≡ map f (take n l)
+map-take f zero l = refl
+map-take f (suc n) [] = refl
+map-take f (suc n) (x ∷ l) = ap (λ r. f x ∷ r) (map-take f n l)
+
+-- a part of a row written over a table
+part-over : (f : ℕ → ℕ) (l out : List ℕ) (first n : ℕ) → first + n ≤ length l → partOf first n (over (map f l) out) ≡ map f (partOf first n l)
+part-over f l out first n h =
+    let rest : List ℕ = drop (length (map f l)) out in
+    let m : length (map f l) ≡ length l = length-map l f in
+    ap (take n) (drop-append-le first (map f l) rest (omega arith))
+    ∙ take-append-le n (drop first (map f l)) rest (omega (arith, length-drop first (map f l)))
+    ∙ ap (take n) (map-drop f first l)
+    ∙ map-take f n (drop first l)
+
+-- keys out of two rows
+keys-map : (f g : ℕ → ℕ) (l : List ℕ) → keysOf (map f l) (map g l) ≡ map (λ h. record { x = f h; y = g h }) l
+keys-map f g [] = refl
+keys-map f g (h ∷ l) = ap (λ r. record { x = f h; y = g h } ∷ r) (keys-map f g l)
+
+-- a table with a row over its front is as long
+length-over : (row out : List ℕ) → length row ≤ length out → length (over row out) ≡ length out
+length-over row out h = omega (arith, length-append row (drop (length row) out), length-drop (length row) out)
+
+-- the tables as they were given, and the lists of bits as they are written
+module _ (lim : Limits) (halfEdges firsts lengths : List ℕ) (count : ℕ) (source : List ℕ) (X Y areas : List Float)
+    (g : Numberable lim halfEdges firsts lengths count source X Y areas)
+    (xs ys xs₀ ys₀ : List ℕ) (ex : xs ≡ over (map (bitsFrom source X) halfEdges) xs₀) (ey : ys ≡ over (map (bitsFrom source Y) halfEdges) ys₀)
+    (room : length halfEdges ≤ length xs₀) (same : length xs₀ ≡ length ys₀) where
+  -- a key for every entry
+  length-filled : length (keysOf xs ys) ≡ length xs₀
+  length-filled =
+      let mx : length (map (bitsFrom source X) halfEdges) ≡ length halfEdges = length-map halfEdges (bitsFrom source X) in
+      let my : length (map (bitsFrom source Y) halfEdges) ≡ length halfEdges = length-map halfEdges (bitsFrom source Y) in
+      let x : length xs ≡ length xs₀ = ap length ex ∙ length-over (map (bitsFrom source X) halfEdges) xs₀ (omega arith) in
+      let y : length ys ≡ length ys₀ = ap length ey ∙ length-over (map (bitsFrom source Y) halfEdges) ys₀ (omega arith) in
+      length-keys xs ys (omega arith) ∙ x
+
+  -- a ring's keys are among them
+  pub within-filled : (i : ℕ) → i < count → getD firsts i 0 + getD lengths i 0 ≤ length (keysOf xs ys)
+  within-filled i h = omega (arith, g .within i h, length-filled)
+
+  -- they are those of its starting nodes
+  keys-filled : (i : ℕ) → i < count
+      → partOf (getD firsts i 0) (getD lengths i 0) (keysOf xs ys) ≡ map (λ h. keyIn X Y (getD source h 0)) (partOf (getD firsts i 0) (getD lengths i 0) halfEdges)
+  unfolding bitsFrom keyOf
+  keys-filled i h =
+      let a : ℕ = getD firsts i 0 in
+      let n : ℕ = getD lengths i 0 in
+      sym (keys-part a n xs ys)
+      ∙ ap₂ keysOf
+      (ap (partOf a n) ex ∙ part-over (bitsFrom source X) halfEdges xs₀ a n (g .within i h))
+      (ap (partOf a n) ey ∙ part-over (bitsFrom source Y) halfEdges ys₀ a n (g .within i h))
+      ∙ keys-map (bitsFrom source X) (bitsFrom source Y) (partOf a n halfEdges)
+
+  -- the turns as they are written
+  module _ (turns turns₀ : List ℕ) (et : turns ≡ over (map (turnOf (keysOf xs ys) firsts lengths) (upto count)) turns₀) (roomT : count ≤ length turns₀) where
+    -- the lists
+    abbrev filled : Listed
+    filled = listed halfEdges xs ys firsts lengths turns areas
+
+    -- the rings of the tables
+    abbrev R : ℕ → Ring
+    R = ringAt halfEdges firsts lengths source X Y
+
+    -- as many turns as before
+    length-turns : length turns ≡ length turns₀
+    length-turns =
+        let m : length (map (turnOf (keysOf xs ys) firsts lengths) (upto count)) ≡ count = length-map (upto count) (turnOf (keysOf xs ys) firsts lengths) ∙ length-upto count in
+        ap length et ∙ length-over (map (turnOf (keysOf xs ys) firsts lengths) (upto count)) turns₀ (omega arith)
+
+    -- ring i's turn
+    turn-filled : (i : ℕ) → i < count → getD turns i 0 ≡ leastRotation (partOf (getD firsts i 0) (getD lengths i 0) (keysOf xs ys))
+    unfolding turnOf
+    turn-filled i h =
+        let row : List ℕ = map (turnOf (keysOf xs ys) firsts lengths) (upto count) in
+        ap (λ l. getD l i 0) et
+        ∙ List·getD-append row (drop (length row) turns₀) 0 i (omega (arith, length-map (upto count) (turnOf (keysOf xs ys) firsts lengths), length-upto count))
+        ∙ map-upto-at (turnOf (keysOf xs ys) firsts lengths) count i 0 h
+
+    -- ring i of the lists is ring i of the tables
+    ring-filled : (i : ℕ) → i < count → ringIn filled i ≡ R i
+    unfolding ringIn ringAt ringOf faceKey
+    ring-filled i h =
+        let k = keys-filled i h in
+        let t = turn-filled i h ∙ ap leastRotation k in
+        let z = doubled-half (g .halves i h) in
+        λ j. record { halfEdges = partOf (getD firsts i 0) (getD lengths i 0) halfEdges; key = rotated (t j) (k j); doubled = z j }
+
+    -- ring i is in the lists
+    stands-filled : (i : ℕ) → i < count → Stands filled i
+    stands-filled i h =
+        let P : List Key = partOf (getD firsts i 0) (getD lengths i 0) (keysOf xs ys) in
+        let within = within-filled i h in
+        let n : length P ≡ getD lengths i 0 = length-part (getD firsts i 0) (getD lengths i 0) (keysOf xs ys) within in
+        let some = g .some i h in
+        let half = g .halves i h in
+        record {
+          firsts = omega (arith, g .firstRoom);
+          sizes = omega (arith, g .lengthRoom);
+          turns = omega (arith, length-turns);
+          areas = omega (arith, g .areaRoom);
+          some = some;
+          within = g .within i h;
+          keyed = within;
+          turned = omega (arith, turn-filled i h, least-rotation P (omega arith) .within);
+          half = subst (HalfOf (getD areas i nan)) (sym (doubled-half half)) half;
+        }
+
+    -- so are all, and no two begin with the same half-edge
+    pub all-filled : AllStand filled count
+    all-filled = record { stands = stands-filled; apart = g .apart }
+
+    -- the place of ring i in the order is its face number
+    place-number : (i : ℕ) → i < count → indexOf i (inOrder filled count) ≡ faceNumber (ringsAt halfEdges firsts lengths count source X Y) (R i)
+    unfolding inOrder before faceNumber
+    place-number i h =
+        index-sorted (λ j. j < count) (before filled) (before-order filled count all-filled) count i (λ j l. l) h
+        ∙ ap length (pick-agree (λ j. before filled j i) (λ j. faceBefore (R j) (R i)) (upto count)
+        (λ j m. ap₂ faceBefore (ring-filled j (upto-below count j m)) (ring-filled i h)))
+        ∙ sym (how-many (λ s. faceBefore s (R i)) R (upto count))
+
+    -- the places of all rings are the face numbers
+    pub places-numbers : map (λ i. indexOf i (inOrder filled count)) (upto count) ≡ faceNumbers (ringsAt halfEdges firsts lengths count source X Y)
+    places-numbers =
+        row-same (λ i. indexOf i (inOrder filled count)) (faceNumber (ringsAt halfEdges firsts lengths count source X Y)) R count place-number
+
+-- ---- the rings of a state
+
+-- a ring of a state is one of its tables
+pub ring-of-state : (s : State) (ring : List ℕ) → ringOf (pointOf s) (nodeKey s) (arrangement s) ring ≡ ringOf (pointIn (s .nodeX) (s .nodeY)) (keyIn (s .nodeX) (s .nodeY)) (origins (s .source)) ring
+unfolding ringOf doubledArea faceKey pointOf nodeKey arrangement
+ring-of-state s ring = refl

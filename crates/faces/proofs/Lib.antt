@@ -1,0 +1,10 @@
+-- Laws of keys in lists, of the order of rings, of places in a row in order, and of face numbers.
+pub mod Rows
+pub mod KeyLists
+pub mod Rankings
+pub mod Halving
+pub mod Inserting
+pub mod Places
+pub mod Rings
+pub mod Filled
+pub mod Worked

@@ -1,0 +1,46 @@
+-- Keys in lists: what fills them, and how two rings' keys compare.
+use Prim.Native.Nat.{ℕ, _+_, _<_, _≤_}
+use mathlib.Core.Bool.{Bool, true, false}
+use mathlib.Core.List.{List}
+use lib.ListN.{length, getD}
+use lib.Ieee.{Float, nan}
+use Rattle.geometry.specs.Coordinate.{canonicalBits}
+use Rattle.rotation.specs.Rotation.{Key, keysBefore, rotated, leastRotation}
+use Rattle.faces.specs.declared.keys.KeysOrder.{KeysOrder}
+use Rattle.faces.specs.declared.keys.KeysOrder.the-variants.{Less, Equal, Greater}
+use Rattle.faces.specs.declared.keys.Turned.{Turned}
+use Rattle.faces.specs.Listed.{partOf}
+
+-- the bits of a coordinate of the node where half-edge h starts
+unfoldable pub bitsFrom : List ℕ → List Float → ℕ → ℕ
+unfolding canonicalBits
+bitsFrom source coordinates h = canonicalBits (getD coordinates (getD source h 0) nan)
+
+-- every half-edge of the list starts at a node that has a coordinate
+abbrev pub Startable : List ℕ → List ℕ → List Float → Type 0
+Startable halfEdges source coordinates = (k : ℕ) → k < length halfEdges
+    → (getD halfEdges k 0 < length source) × (getD source (getD halfEdges k 0) 0 < length coordinates)
+
+-- where the least rotation of ring i's keys starts
+unfoldable pub turnOf : List Key → List ℕ → List ℕ → ℕ → ℕ
+unfolding leastRotation
+turnOf keys firsts lengths i = leastRotation (partOf (getD firsts i 0) (getD lengths i 0) keys)
+
+-- the keys of a ring from where its least rotation starts
+abbrev pub turnedKeys : List Key → Turned → List Key
+turnedKeys keys r = rotated (r .turn) (partOf (r .first) (r .size) keys)
+
+-- a ring's keys are in the list
+pub record Turns (keys : List Key) (r : Turned) : Type 0 where
+  pub within : r .first + r .size ≤ length keys
+  pub turned : r .turn < r .size
+
+-- before, behind, or neither
+abbrev pub orderOf : Bool → Bool → KeysOrder
+orderOf true behind = Less
+orderOf false true = Greater
+orderOf false false = Equal
+
+-- how the keys ks stand to the keys ls
+unfoldable pub keysOrder : List Key → List Key → KeysOrder
+keysOrder ks ls = orderOf (keysBefore ks ls) (keysBefore ls ks)

@@ -1,0 +1,133 @@
+// The keys of rings. The key of entry k of half_edges is (xs[k], ys[k]), so that a ring's keys stand
+// in a row. They are compared where they stand and never copied.
+ghost use mathlib.Core.Path.{_≡_};
+ghost use mathlib.Core.List.{map};
+ghost use Prim.Native.Nat.{ℕ, _+_, _<_, _≤_, _%_, _^_, min};
+ghost use lib.ListN.{length, getD};
+ghost use Rattle.lists.specs.Lists.{upto, over};
+ghost use Rattle.rotation.specs.Rotation.{keyBefore, keyAt, keysOf, leastRotation};
+ghost use Rattle.faces.specs.Listed.{partOf};
+ghost use Rattle.faces.specs.Keys.{bitsFrom, Startable, turnOf, turnedKeys, Turns, keysOrder};
+use crate::wide;
+
+// How one list of keys stands to another.
+pub enum KeysOrder {
+    Less,
+    Equal,
+    Greater,
+}
+
+// A ring's keys in the lists: where they begin, how many there are, and at which of them the least
+// rotation starts.
+pub struct Turned {
+    pub first: usize,
+    pub size: usize,
+    pub turn: usize,
+}
+
+// The bits of one coordinate of the starting node of every half-edge.
+pub fn write_bits(half_edges: &[u16], dir_edges_src: &[u16], coordinates: &[f64], bits: &mut [u64])
+    requires { ⌜ (length (now «half_edges») ≤ length (now bits)) × Startable (now «half_edges») (now «dir_edges_src») (now coordinates) ⌝ }
+    ensures { λ _. ⌜ now (bits .exit) ≡ over (map (bitsFrom (now («dir_edges_src» .entry)) (now (coordinates .entry))) (now («half_edges» .entry))) (now (bits .entry)) ⌝ }
+{
+    let mut k = 0;
+    while k < half_edges.len() {
+        let h = wide(half_edges[k]);
+        let n = wide(dir_edges_src[h]);
+        bits[k] = geometry::canonical_coordinate_bits(coordinates[n]);
+        k += 1;
+    }
+}
+
+// Where the least rotation of a ring's keys starts.
+fn turn_of(xs: &[u64], ys: &[u64], first: usize, size: usize) -> u16
+    requires { ⌜ (0 < size) × (size < 65536) × (first + size ≤ length (keysOf (now xs) (now ys))) ⌝ }
+    ensures { λ r. ⌜ r ≡ leastRotation (partOf first size (keysOf (now (xs .entry)) (now (ys .entry)))) ⌝ }
+{
+    let end = first + size;
+    rotation::rotation_index(&xs[first..end], &ys[first..end]) as u16
+}
+
+// The same for each ring.
+pub fn write_turns(
+    xs: &[u64],
+    ys: &[u64],
+    firsts: &[u16],
+    lengths: &[u16],
+    count: usize,
+    turns: &mut [u16],
+)
+    requires { ⌜ (count ≤ length (now firsts)) × (count ≤ length (now lengths)) × (count ≤ length (now turns)) ⌝ }
+    requires { ⌜ ((i : ℕ) → i < count → (0 < getD (now lengths) i 0) × (getD (now firsts) i 0 + getD (now lengths) i 0 ≤ length (keysOf (now xs) (now ys)))) ⌝ }
+    ensures { λ _. ⌜ now (turns .exit) ≡ over (map (turnOf (keysOf (now (xs .entry)) (now (ys .entry))) (now (firsts .entry)) (now (lengths .entry))) (upto count)) (now (turns .entry)) ⌝ }
+{
+    let mut i = 0;
+    while i < count {
+        let first = wide(firsts[i]);
+        let size = wide(lengths[i]);
+        turns[i] = turn_of(xs, ys, first, size);
+        i += 1;
+    }
+}
+
+// The place of a ring's entry k, counted from where its least rotation starts.
+fn place(ring: Turned, k: usize) -> usize
+    requires { ⌜ (ring .first + ring .size < 2 ^ 64) × (ring .turn < ring .size) × (k < ring .size) ⌝ }
+    ensures { λ r. ⌜ r ≡ ring .first + (ring .turn + k) % ring .size ⌝ }
+{
+    let rest = ring.size - ring.turn;
+    if k < rest {
+        return ring.first + (ring.turn + k);
+    }
+    ring.first + (k - rest)
+}
+
+// The keys at two places, by x, then y, as unsigned numbers.
+fn key_before(xs: &[u64], ys: &[u64], p: usize, q: usize) -> bool
+    requires { ⌜ (p < length (keysOf (now xs) (now ys))) × (q < length (keysOf (now xs) (now ys))) ⌝ }
+    ensures { λ r. ⌜ r ≡ keyBefore (keyAt (keysOf (now (xs .entry)) (now (ys .entry))) p) (keyAt (keysOf (now (xs .entry)) (now (ys .entry))) q) ⌝ }
+{
+    if xs[p] < xs[q] {
+        return true;
+    }
+    if xs[q] < xs[p] {
+        return false;
+    }
+    ys[p] < ys[q]
+}
+
+fn lesser(a: usize, b: usize) -> usize
+    ensures { λ r. ⌜ r ≡ min a b ⌝ }
+{
+    if a < b {
+        return a;
+    }
+    b
+}
+
+// By the first entry that differs; a prefix comes first.
+pub fn compare_keys(xs: &[u64], ys: &[u64], a: Turned, b: Turned) -> KeysOrder
+    requires { ⌜ Turns (keysOf (now xs) (now ys)) a × Turns (keysOf (now xs) (now ys)) b ⌝ }
+    ensures { λ r. ⌜ r ≡ keysOrder (turnedKeys (keysOf (now (xs .entry)) (now (ys .entry))) a) (turnedKeys (keysOf (now (xs .entry)) (now (ys .entry))) b) ⌝ }
+{
+    let shared = lesser(a.size, b.size);
+    let mut k = 0;
+    while k < shared {
+        let p = place(a, k);
+        let q = place(b, k);
+        if key_before(xs, ys, p, q) {
+            return KeysOrder::Less;
+        }
+        if key_before(xs, ys, q, p) {
+            return KeysOrder::Greater;
+        }
+        k += 1;
+    }
+    if a.size < b.size {
+        return KeysOrder::Less;
+    }
+    if b.size < a.size {
+        return KeysOrder::Greater;
+    }
+    KeysOrder::Equal
+}

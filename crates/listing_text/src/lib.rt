@@ -1,0 +1,195 @@
+// The text of the listing: numbers and lines written into a lent buffer. Each function answers the
+// place after what it wrote; every other byte of the buffer keeps its contents.
+ghost use mathlib.Core.Path.{_≡_};
+ghost use Prim.Native.Nat.{_+_, _<_, _≤_};
+ghost use lib.IntN.{natAbs};
+ghost use lib.ListN.{length, getD};
+ghost use Rattle.listing_text.specs.Decimal.{digit, decimal, signedDecimal};
+ghost use Rattle.listing_text.specs.Lines.{labelled, spaced, ringNodes, headLine, ringLine, refusalLine, headRoom, ringRoom, refusalRoom};
+ghost use Rattle.listing_text.specs.Buffer.{Put};
+use tables::FaceId;
+
+// A number of a table as an index.
+fn wide(n: u16) -> usize
+    ensures { λ r. ⌜ r ≡ n ⌝ }
+{
+    n as usize
+}
+
+// The byte of a digit.
+fn digit_byte(n: u64) -> u8
+    requires { ⌜ n < 10 ⌝ }
+    ensures { λ r. ⌜ r ≡ digit n ⌝ }
+{
+    b'0' + n as u8
+}
+
+// How many digits n has.
+fn digit_count(n: u64) -> usize
+    ensures { λ r. ⌜ r ≡ length (decimal n) ⌝ }
+{
+    let mut count = 1;
+    let mut rest = n;
+    while 10 <= rest {
+        rest = rest / 10;
+        count += 1;
+    }
+    count
+}
+
+// n in decimal. The digits are found from the last to the first, so they are counted before.
+pub fn put_number(out: &mut [u8], at: usize, n: u64) -> usize
+    requires { ⌜ at + length (decimal n) ≤ length (now out) ⌝ }
+    ensures { λ r. ⌜ Put at (decimal n) (now (out .entry)) (now (out .exit)) r ⌝ }
+{
+    let after = at + digit_count(n);
+    let mut place = after;
+    let mut rest = n;
+    while 10 <= rest {
+        place -= 1;
+        out[place] = digit_byte(rest % 10);
+        rest = rest / 10;
+    }
+    out[at] = digit_byte(rest);
+    after
+}
+
+// A text as it is.
+pub fn put_text(out: &mut [u8], at: usize, text: &[u8]) -> usize
+    requires { ⌜ at + length (now text) ≤ length (now out) ⌝ }
+    ensures { λ r. ⌜ Put at (now (text .entry)) (now (out .entry)) (now (out .exit)) r ⌝ }
+{
+    let mut i = 0;
+    while i < text.len() {
+        out[at + i] = text[i];
+        i += 1;
+    }
+    at + i
+}
+
+// A text and then a number.
+fn put_labelled(out: &mut [u8], at: usize, label: &[u8], n: u64) -> usize
+    requires { ⌜ at + length (labelled (now label) n) ≤ length (now out) ⌝ }
+    ensures { λ r. ⌜ Put at (labelled (now (label .entry)) n) (now (out .entry)) (now (out .exit)) r ⌝ }
+{
+    let place = put_text(out, at, label);
+    put_number(out, place, n)
+}
+
+// The least i64 has no negative in its type, so one is added before the sign is turned.
+fn magnitude(n: i64) -> u64
+    ensures { λ r. ⌜ r ≡ natAbs n ⌝ }
+{
+    if n < 0 { -(n + 1) as u64 + 1 } else { n as u64 }
+}
+
+// A minus sign where n is negative, and its size in decimal.
+pub fn put_signed(out: &mut [u8], at: usize, n: i64) -> usize
+    requires { ⌜ at + length (signedDecimal n) ≤ length (now out) ⌝ }
+    ensures { λ r. ⌜ Put at (signedDecimal n) (now (out .entry)) (now (out .exit)) r ⌝ }
+{
+    let size = magnitude(n);
+    if n < 0 {
+        return put_labelled(out, at, b"-", size);
+    }
+    put_number(out, at, size)
+}
+
+// What a table holds at a place, 0 past its end.
+fn entry(table: &[u16], at: usize) -> u16
+    ensures { λ r. ⌜ r ≡ getD (now (table .entry)) at 0 ⌝ }
+{
+    if at < table.len() { table[at] } else { 0 }
+}
+
+// The nodes at which a ring's half-edges start, a space before each.
+fn put_nodes(
+    out: &mut [u8],
+    at: usize,
+    half_edges: &[u16],
+    first: usize,
+    ring_length: usize,
+    dir_edges_src: &[u16],
+) -> usize
+    requires { ⌜ first + «ring_length» ≤ length (now «half_edges») ⌝ }
+    requires { ⌜ at + length (spaced (ringNodes (now «dir_edges_src») (now «half_edges») first «ring_length»)) ≤ length (now out) ⌝ }
+    ensures { λ r. ⌜ Put at (spaced (ringNodes (now («dir_edges_src» .entry)) (now («half_edges» .entry)) first «ring_length»)) (now (out .entry)) (now (out .exit)) r ⌝ }
+{
+    let mut place = at;
+    let mut i = 0;
+    while i < ring_length {
+        let half_edge = wide(half_edges[first + i]);
+        let node = wide(entry(dir_edges_src, half_edge));
+        place = put_labelled(out, place, b" ", node as u64);
+        i += 1;
+    }
+    place
+}
+
+// A face's number, for printing.
+fn face_number(face: FaceId) -> u64
+    ensures { λ r. ⌜ (r ≡ face .0) × (r < 65536) ⌝ }
+{
+    face.0 as u64
+}
+
+// Line one of the listing: five counts and the rings' verdict.
+pub fn put_head(
+    out: &mut [u8],
+    at: usize,
+    nodes: u64,
+    edges: u64,
+    dangles: u64,
+    cuts: u64,
+    rings: u64,
+    euler: bool,
+) -> usize
+    requires { ⌜ at + headRoom ≤ length (now out) ⌝ }
+    ensures { λ r. ⌜ Put at (headLine nodes edges dangles cuts rings euler) (now (out .entry)) (now (out .exit)) r ⌝ }
+{
+    let mut place = put_labelled(out, at, b"nodes ", nodes);
+    place = put_labelled(out, place, b" edges ", edges);
+    place = put_labelled(out, place, b" dangles ", dangles);
+    place = put_labelled(out, place, b" cuts ", cuts);
+    place = put_labelled(out, place, b" rings ", rings);
+    if euler {
+        return put_text(out, place, b" euler yes\n");
+    }
+    put_text(out, place, b" euler no\n")
+}
+
+// A ring's line. Its half-edges stand from `first` on; `dir_edges_src` says where each starts.
+pub fn put_ring(
+    out: &mut [u8],
+    at: usize,
+    ring: u64,
+    face: FaceId,
+    doubled: i64,
+    half_edges: &[u16],
+    first: usize,
+    ring_length: usize,
+    dir_edges_src: &[u16],
+) -> usize
+    requires { ⌜ first + «ring_length» ≤ length (now «half_edges») ⌝ }
+    requires { ⌜ at + ringRoom «ring_length» ≤ length (now out) ⌝ }
+    ensures { λ r. ⌜ Put at (ringLine ring (face .0) doubled (ringNodes (now («dir_edges_src» .entry)) (now («half_edges» .entry)) first «ring_length»)) (now (out .entry)) (now (out .exit)) r ⌝ }
+{
+    let number = face_number(face);
+    let mut place = put_labelled(out, at, b"ring ", ring);
+    place = put_labelled(out, place, b" face ", number);
+    place = put_text(out, place, b" doubled ");
+    place = put_signed(out, place, doubled);
+    place = put_text(out, place, b" nodes");
+    place = put_nodes(out, place, half_edges, first, ring_length, dir_edges_src);
+    put_text(out, place, b"\n")
+}
+
+// The one line that is printed where a record is refused.
+pub fn put_refusal(out: &mut [u8], at: usize, number: u64, record_number: u64) -> usize
+    requires { ⌜ at + refusalRoom ≤ length (now out) ⌝ }
+    ensures { λ r. ⌜ Put at (refusalLine number «record_number») (now (out .entry)) (now (out .exit)) r ⌝ }
+{
+    let mut place = put_labelled(out, at, b"refused ", number);
+    place = put_labelled(out, place, b" record ", record_number);
+    put_text(out, place, b"\n")
+}

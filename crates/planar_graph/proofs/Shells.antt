@@ -1,0 +1,201 @@
+-- The tests of a public entry, one after another: the first that fails gives its refusal and leaves everything, and where all pass the
+-- rest is what follows.
+use Prim.Native.Nat.{ℕ, _<_}
+use mathlib.Core.Path.{_≡_, refl, sym, ap, _∙_}
+use mathlib.Core.Bool.{Bool, true, false, cond}
+use mathlib.Core.List.{List}
+use lib.Dec.{eqb, leb}
+use lib.ListN.{length}
+use native.Mathlib.Omega.{arith}
+use borrow.Author.Tests.{eqb-true, eq-eqb, lt-leb}
+use Rattle.geometry.specs.declared.Line3D.{Line3D}
+use Rattle.geometry.specs.Reply.{Reply, refused, success}
+use Rattle.rules.specs.Limits.{Limits}
+use Rattle.rules.specs.State.{State, roomy, sound}
+use Rattle.rules.specs.Adding.{Outcome, demand, Nothing, add}
+use Rattle.rules.specs.Stages.{create, created, step, sort, pruneStep, cutStep, reset}
+use Rattle.tables.specs.Refusals.{refusalNumber}
+use Rattle.tables.specs.declared.Refusal.{Refusal}
+use Rattle.tables.specs.declared.Refusal.the-variants.{TableTooShort, Unsound, WrongStage, ListTooShort}
+use Rattle.lists.proofs.Counts.{true-is-false}
+use Rattle.planar_graph.specs.Checks.{soundOr, soundCheck, stageCheck}
+use Rattle.planar_graph.specs.declared.checks.Checked.{Checked}
+use Rattle.planar_graph.specs.declared.checks.Checked.the-variants.{Passed, Refused}
+
+-- what came out of a call that was refused
+abbrev pub turnedDown : {A L : Type 0} → Refusal → State → L → Outcome A L
+turnedDown why s lists = record { reply = refused (refusalNumber why); state = s; lists = lists }
+
+-- ---- the order of the tests
+
+module _ (l : Limits) (s : State) (rest : Checked) where
+  pub check-room : roomy l s ≡ false → Refused TableTooShort ≡ soundOr l s rest
+  check-room e = sym (ap (λ b. cond b (cond (sound l s) rest (Refused Unsound)) (Refused TableTooShort)) e)
+
+  pub check-sense : roomy l s ≡ true → sound l s ≡ false → Refused Unsound ≡ soundOr l s rest
+  check-sense e t = sym (λ i. cond (e i) (cond (t i) rest (Refused Unsound)) (Refused TableTooShort))
+
+  pub check-rest : roomy l s ≡ true → sound l s ≡ true → rest ≡ soundOr l s rest
+  check-rest e t = sym (λ i. cond (e i) (cond (t i) rest (Refused Unsound)) (Refused TableTooShort))
+
+-- a test that passed
+pub record Good (l : Limits) (s : State) : Type 0 where
+  pub room : roomy l s ≡ true
+  pub sense : sound l s ≡ true
+
+-- the two tests, by what they came to
+module _ {C : Type 0} (l : Limits) (s : State) (rest : Checked) where
+  by-checks : (roomy l s ≡ false → soundOr l s rest ≡ Refused TableTooShort → C)
+      → (roomy l s ≡ true → sound l s ≡ false → soundOr l s rest ≡ Refused Unsound → C)
+      → (Good l s → soundOr l s rest ≡ rest → C) → C
+  by-checks f g h = go (roomy l s) refl (sound l s) refl
+    where
+      go : (a : Bool) → roomy l s ≡ a → (b : Bool) → sound l s ≡ b → C
+      go false e b t = f e (sym (check-room l s rest e))
+      go true e false t = g e t (sym (check-sense l s rest e t))
+      go true e true t = h (record { room = e; sense = t }) (sym (check-rest l s rest e t))
+
+-- the tests passed: the state is sound
+pub check-passed : (l : Limits) (s : State) → Passed ≡ soundCheck l s → Good l s
+check-passed l s e = by-checks l s Passed
+    (λ a q. absurd (never (e ∙ q)))
+    (λ a b q. absurd (never (e ∙ q)))
+    (λ g q. g)
+  where
+    never : {why : Refusal} → Passed ≡ Refused why → ⊥
+    never q = let z : _≡_ {A = ℕ} 0 1 = cc in omega arith
+
+-- where numbers 6 or 7 refuse, so does a stage step
+pub check-refused : (l : Limits) (stage : ℕ) (s : State) (why : Refusal) → Refused why ≡ soundCheck l s → Refused why ≡ stageCheck l stage s
+check-refused l stage s why e = by-checks l s Passed
+    (λ a q. e ∙ q ∙ check-room l s _ a)
+    (λ a b q. e ∙ q ∙ check-sense l s _ a b)
+    (λ g q. absurd (never (e ∙ q)))
+  where
+    never : Refused why ≡ Passed → ⊥
+    never q = let z : _≡_ {A = ℕ} 0 1 = cc in omega arith
+
+-- else the stage decides
+pub check-stage-is : (l : Limits) (stage : ℕ) (s : State) → Good l s → stageCheck l stage s ≡ cond (eqb (s .stage) stage) Passed (Refused WrongStage)
+check-stage-is l stage s g = sym (check-rest l s _ (g .room) (g .sense))
+
+-- ---- a test and what follows it
+
+module _ {A L : Type 0} (n : ℕ) (s : State) (lists : L) (o : Outcome A L) where
+  -- it fails
+  pub stops : (b : Bool) → b ≡ false → record { reply = refused n; state = s; lists = lists } ≡ demand b n s lists o
+  stops false e = refl
+  stops true e = absurd (true-is-false e)
+
+  -- it passes
+  pub passes : (b : Bool) → b ≡ true → o ≡ demand b n s lists o
+  passes true e = refl
+  passes false e = absurd (true-is-false (sym e))
+
+-- numbers 6 and 7
+module _ {A L : Type 0} (l : Limits) (s : State) (lists : L) (o : Outcome A L) where
+  abbrev pub tested : Outcome A L
+  tested = demand (roomy l s) 6 s lists (demand (sound l s) 7 s lists o)
+
+  pub tested-stops : (why : Refusal) → Refused why ≡ soundCheck l s → turnedDown why s lists ≡ tested
+  tested-stops why e = by-checks l s Passed
+      (λ a q. ap (λ z. turnedDown z s lists) (same (e ∙ q)) ∙ stops 6 s lists (demand (sound l s) 7 s lists o) (roomy l s) a)
+      (λ a b q. ap (λ z. turnedDown z s lists) (same (e ∙ q)) ∙ stops 7 s lists o (sound l s) b ∙ passes 6 s lists (demand (sound l s) 7 s lists o) (roomy l s) a)
+      (λ g q. absurd (never (e ∙ q)))
+    where
+      same : {x : Refusal} → Refused why ≡ Refused x → why ≡ x
+      same q = cc
+
+      never : Refused why ≡ Passed → ⊥
+      never q = let z : _≡_ {A = ℕ} 0 1 = cc in omega arith
+
+  pub tested-passes : Good l s → o ≡ tested
+  tested-passes g = passes 7 s lists o (sound l s) (g .sense) ∙ passes 6 s lists (demand (sound l s) 7 s lists o) (roomy l s) (g .room)
+
+-- numbers 6, 7 and 5
+module _ {A L : Type 0} (l : Limits) (stage : ℕ) (s : State) (lists : L) (o : Outcome A L) where
+  abbrev staged : Outcome A L
+  staged = demand (eqb (s .stage) stage) 5 s lists o
+
+  pub step-stops : (why : Refusal) → Refused why ≡ stageCheck l stage s → turnedDown why s lists ≡ step l stage s lists o
+  step-stops why e = by-checks l s _
+      (λ a q. tested-stops l s lists staged why (e ∙ q ∙ check-room l s Passed a))
+      (λ a b q. tested-stops l s lists staged why (e ∙ q ∙ check-sense l s Passed a b))
+      (λ g q. go (eqb (s .stage) stage) refl g (e ∙ q))
+    where
+      go : (b : Bool) → eqb (s .stage) stage ≡ b → Good l s → Refused why ≡ cond (eqb (s .stage) stage) Passed (Refused WrongStage) → turnedDown why s lists ≡ step l stage s lists o
+      go true t g q = let z : Refused why ≡ Passed = q ∙ ap (λ b. cond b Passed (Refused WrongStage)) t in let k : _≡_ {A = ℕ} 0 1 = cc in absurd (omega arith)
+      go false t g q =
+          let z : Refused why ≡ Refused WrongStage = q ∙ ap (λ b. cond b Passed (Refused WrongStage)) t in
+          let w : why ≡ WrongStage = cc in
+          ap (λ x. turnedDown x s lists) w ∙ stops 5 s lists o (eqb (s .stage) stage) t ∙ tested-passes l s lists staged g
+
+  pub step-passes : Good l s → s .stage ≡ stage → o ≡ step l stage s lists o
+  step-passes g t = passes 5 s lists o (eqb (s .stage) stage) (eq-eqb (s .stage) stage t) ∙ tested-passes l s lists staged g
+
+-- the tests of a stage step passed: the state is sound and in its stage
+pub stage-passed : (l : Limits) (stage : ℕ) (s : State) → Passed ≡ stageCheck l stage s → Good l s × (s .stage ≡ stage)
+stage-passed l stage s e = by-checks l s _
+    (λ a q. absurd (never (e ∙ q)))
+    (λ a b q. absurd (never (e ∙ q)))
+    (λ g q. (g, go (eqb (s .stage) stage) refl (e ∙ q)))
+  where
+    never : {why : Refusal} → Passed ≡ Refused why → ⊥
+    never q = let z : _≡_ {A = ℕ} 0 1 = cc in omega arith
+
+    go : (b : Bool) → eqb (s .stage) stage ≡ b → Passed ≡ cond (eqb (s .stage) stage) Passed (Refused WrongStage) → s .stage ≡ stage
+    go true t q = eqb-true (s .stage) stage t
+    go false t q = absurd (never (q ∙ ap (λ b. cond b Passed (Refused WrongStage)) t))
+
+-- ---- resetting
+
+-- numbers 6 and 7 alone
+pub reset-stops : (l : Limits) (s : State) (why : Refusal) → Refused why ≡ soundCheck l s → turnedDown why s (record {}) ≡ reset l s
+unfolding reset
+reset-stops l s why e = tested-stops l s (record {}) _ why e
+
+-- ---- adding, and the stage steps
+
+-- an addition needs stage 0
+pub add-stops : (l : Limits) (g : Line3D) (s : State) (why : Refusal) → Refused why ≡ stageCheck l 0 s → turnedDown why s (record {}) ≡ add l g s
+unfolding add
+add-stops l g s why e = step-stops l 0 s (record {}) _ why e
+
+-- so does sorting
+pub sort-stops : (l : Limits) (s : State) (why : Refusal) → Refused why ≡ stageCheck l 0 s → turnedDown why s (record {}) ≡ sort l s
+unfolding sort
+sort-stops l s why e = step-stops l 0 s (record {}) _ why e
+
+-- pruning needs stage 1, and a list as long as the graph has edges
+pub prune-stops : (l : Limits) (s : State) (out : List ℕ) (why : Refusal) → Refused why ≡ stageCheck l 1 s → turnedDown why s out ≡ pruneStep l s out
+unfolding pruneStep
+prune-stops l s out why e = step-stops l 1 s out _ why e
+
+pub prune-short : (l : Limits) (s : State) (out : List ℕ) → Good l s → s .stage ≡ 1 → length out < s .edges → turnedDown ListTooShort s out ≡ pruneStep l s out
+unfolding pruneStep
+prune-short l s out g t e = stops 8 s out _ (leb (s .edges) (length out)) (lt-leb (s .edges) (length out) e) ∙ step-passes l 1 s out _ g t
+
+-- cutting needs stage 2, and such a list
+pub cut-stops : (l : Limits) (s : State) (out : List ℕ) (why : Refusal) → Refused why ≡ stageCheck l 2 s → turnedDown why s out ≡ cutStep l s out
+unfolding cutStep
+cut-stops l s out why e = step-stops l 2 s out _ why e
+
+pub cut-short : (l : Limits) (s : State) (out : List ℕ) → Good l s → s .stage ≡ 2 → length out < s .edges → turnedDown ListTooShort s out ≡ cutStep l s out
+unfolding cutStep
+cut-short l s out g t e = stops 8 s out _ (leb (s .edges) (length out)) (lt-leb (s .edges) (length out) e) ∙ step-passes l 2 s out _ g t
+
+-- ---- creating
+
+-- what creating comes to where there is room
+abbrev makes : State → Outcome Nothing Nothing
+makes s = record { reply = success (record {}); state = created s; lists = record {} }
+
+create-is : (l : Limits) (s : State) → create l s ≡ demand (roomy l s) 6 s (record {}) (makes s)
+unfolding create
+create-is l s = refl
+
+pub create-stops : (l : Limits) (s : State) → roomy l s ≡ false → record { reply = refused 6; state = s; lists = record {} } ≡ create l s
+create-stops l s e = stops 6 s (record {}) (makes s) (roomy l s) e ∙ sym (create-is l s)
+
+pub create-makes : (l : Limits) (s : State) → roomy l s ≡ true → makes s ≡ create l s
+create-makes l s e = passes 6 s (record {}) (makes s) (roomy l s) e ∙ sym (create-is l s)

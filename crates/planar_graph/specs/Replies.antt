@@ -1,0 +1,25 @@
+-- Document 01's number and values for each case of a reply.
+use Prim.Native.Nat.{ℕ}
+use Rattle.geometry.specs.Reply.{Reply, refused, success}
+use Rattle.rules.specs.Adding.{Nothing}
+use Rattle.tables.specs.Refusals.{refusalNumber}
+use Rattle.tables.specs.declared.PlanarGraph.{PlanarGraph}
+use Rattle.planar_graph.specs.declared.Created.{Created}
+use Rattle.planar_graph.specs.declared.Created.the-variants as created
+use Rattle.planar_graph.specs.declared.StepReply.{StepReply}
+use Rattle.planar_graph.specs.declared.StepReply.the-variants as step
+
+-- creating: success alone, or the number
+abbrev pub createdReply : Created → Reply Nothing
+createdReply (created.Graph g) = success (record {})
+createdReply (created.Refused why) = refused (refusalNumber why)
+
+-- the graph that the caller then has
+abbrev pub createdGraph : PlanarGraph → Created → PlanarGraph
+createdGraph old (created.Graph g) = g
+createdGraph old (created.Refused why) = old
+
+-- sorting and resetting: success alone, or the number
+abbrev pub stepReply : StepReply → Reply Nothing
+stepReply step.Done = success (record {})
+stepReply (step.Refused why) = refused (refusalNumber why)

@@ -1,0 +1,86 @@
+-- A run: calls from a newly created graph, each of which meets the clause that its entry ensures and takes up what the last one left.
+-- Demand 3 is one theorem about runs.
+use Prim.Native.Nat.{ℕ}
+use mathlib.Core.Path.{_≡_}
+use mathlib.Core.Bool.{Bool}
+use mathlib.Core.List.{List, [], _∷_}
+use Rattle.lists.specs.Lists.{upto}
+use Rattle.geometry.specs.Reply.{Reply, success}
+use Rattle.geometry.specs.declared.Line3D.{Line3D}
+use Rattle.rules.specs.State.{State, arrangement, pointOf}
+use Rattle.rules.specs.Adding.{Nothing, Added}
+use Rattle.rules.specs.Stages.{Cutting}
+use Rattle.rules.specs.Ringing.{RingLists, Ringing}
+use Rattle.rules.specs.Sketch.{Sketch, pointAt, sketched, Call, feed, adding, sorting, pruning, cutting, ringing, resetting}
+use Rattle.rules.specs.Claim.{isRefused, emptySketch, ringsFrom, RingRules, SideRules, Given64}
+use Rattle.planar_graph.specs.Clauses.{Creates, Adds, Sorts, Prunes, Cuts, Extracts, Resets}
+
+-- a call of a run, with what came out of it
+pub data Step : Type 0 where
+  added : Line3D → Reply Added → State → Step
+  sorted : Reply Nothing → State → Step
+  pruned : List ℕ → Reply ℕ → State → List ℕ → Step
+  cut : List ℕ → Reply Cutting → State → List ℕ → Step
+  extracted : RingLists → Reply Ringing → State → RingLists → Step
+  reset : Reply Nothing → State → Step
+
+-- the state that it left
+abbrev pub after : Step → State
+after (added line reply s) = s
+after (sorted reply s) = s
+after (pruned out reply s written) = s
+after (cut out reply s written) = s
+after (extracted out reply s written) = s
+after (reset reply s) = s
+
+-- it met its entry's clause on the state before it; an addition's floats are 64-bit floats, as every f64 is
+abbrev pub Meets : State → Step → Type 0
+Meets s (added line reply t) = Adds line s reply t × Given64 line
+Meets s (sorted reply t) = Sorts s reply t
+Meets s (pruned out reply t written) = Prunes s out reply t written
+Meets s (cut out reply t written) = Cuts s out reply t written
+Meets s (extracted out reply t written) = Extracts s out reply t written
+Meets s (reset reply t) = Resets s reply t
+
+-- each step takes up the state that the last one left
+abbrev pub Run : State → List Step → Type 0
+Run s [] = Unit {0}
+Run s (x ∷ xs) = Meets s x × Run (after x) xs
+
+-- the state after a run
+abbrev pub ends : State → List Step → State
+ends s [] = s
+ends s (x ∷ xs) = ends (after x) xs
+
+-- what the sketch is fed of a step: the call's kind, an addition's segment, and whether the call was refused
+abbrev pub feedStep : Step → Sketch → Sketch
+feedStep (added line reply s) k = feed (isRefused reply) (adding line) k
+feedStep (sorted reply s) k = feed (isRefused reply) sorting k
+feedStep (pruned out reply s written) k = feed (isRefused reply) (pruning out) k
+feedStep (cut out reply s written) k = feed (isRefused reply) (cutting out) k
+feedStep (extracted out reply s written) k = feed (isRefused reply) (ringing out) k
+feedStep (reset reply s) k = feed (isRefused reply) resetting k
+
+-- the sketch of a run, from a sketch on
+abbrev pub sketchFrom : Sketch → List Step → Sketch
+sketchFrom k [] = k
+sketchFrom k (x ∷ xs) = sketchFrom (feedStep x k) xs
+
+-- Demand 3. The tables held anything when the graph was created; then came any calls, refused ones included. A ring extraction that
+-- succeeds gives exactly the rings of the sketch of the calls before it, in the same order; their doubled areas sum to zero; each
+-- unmarked half-edge is passed once, a marked one never; rings join and stay in their maximal ring; sides and areas are exact.
+unfoldable pub Demand3 : Type 0
+Demand3 =
+    (tables : State) (new : State) (none : Nothing) → Creates tables (success none) new
+    → (steps : List Step) → Run new steps
+    → (out written : RingLists) (last : State) (r : Ringing) → Extracts (ends new steps) out (success r) last written
+    → let k = sketchFrom emptySketch steps in
+    let rings = ringsFrom written (upto (r .count)) in
+    RingRules (sketched k) (pointAt k) rings × SideRules (sketched k) (pointAt k) rings written
+
+-- The same of every sound state, by its own edges and marks.
+unfoldable pub Demand3Sound : Type 0
+Demand3Sound =
+    (s last : State) (out written : RingLists) (r : Ringing) → Extracts s out (success r) last written
+    → let rings = ringsFrom written (upto (r .count)) in
+    RingRules (arrangement s) (pointOf s) rings × SideRules (arrangement s) (pointOf s) rings written

@@ -1,0 +1,80 @@
+-- The tables in the middle of pruning, and what one turn asks and leaves.
+use Prim.Native.Nat.{ℕ, _-_, _<_, _≤_}
+use mathlib.Core.Path.{_≡_}
+use mathlib.Core.Bool.{Bool, false, _&&_, not}
+use mathlib.Core.List.{List, reverse}
+use lib.Dec.{eqb}
+use lib.ListN.{length, getD, take, drop}
+use Rattle.rules.specs.HalfEdge.{twin}
+use Rattle.rules.specs.Prune.{Pruning}
+use Rattle.rules.specs.Counted.{Counted}
+use Rattle.lists.specs.Lists.{over}
+use Rattle.tables.specs.declared.PlanarGraph.{PlanarGraph}
+use Rattle.pruning.specs.declared.Progress.{Progress}
+use Rattle.pruning.specs.declared.PruneDone.{PruneDone}
+use Rattle.pruning.specs.Groups.{groupOf, originIn, Starred}
+
+-- an unmarked node of degree 1
+abbrev pub leaf : List ℕ → List Bool → ℕ → Bool
+leaf degrees nodeMarks n = eqb (getD degrees n 0) 1 && not (getD nodeMarks n false)
+
+-- the first k entries of a list, the last first
+abbrev pub latest : ℕ → List ℕ → List ℕ
+latest k l = reverse (take k l)
+
+-- the tables in the middle of pruning: stacked and found are the first entries of two lists
+abbrev pub tablesAt : List ℕ → List Bool → List Bool → List ℕ → List ℕ → Progress → Pruning
+tablesAt degrees nodeMarks halfMarks stack out at = record {
+  degrees = degrees;
+  nodeMarks = nodeMarks;
+  halfMarks = halfMarks;
+  stack = latest (at .stacked) stack;
+  found = latest (at .found) out;
+}
+
+-- how far it came from `before` edges found: no count is past its list, and the entries past those found are as before
+pub record Reached (before : ℕ) (old out stack : List ℕ) (at : Progress) : Type 0 where
+  pub rises : before ≤ at .found
+  pub stackRoom : at .stacked ≤ length stack
+  pub listRoom : at .found ≤ length out
+  pub rest : drop (at .found) out ≡ drop (at .found) old
+
+-- what taking node n with half-edge h asks: every entry that is read or written is there, and the neighbour's degree can fall
+pub record Takeable (n h : ℕ) (source degrees : List ℕ) (nodeMarks halfMarks : List Bool) (stack out : List ℕ) (at : Progress) : Type 0 where
+  pub node : n < length degrees
+  pub nodeMark : n < length nodeMarks
+  pub half : h < length halfMarks
+  pub twinHalf : twin h < length halfMarks
+  pub twinStart : twin h < length source
+  pub other : originIn source (twin h) < length degrees
+  pub otherMark : originIn source (twin h) < length nodeMarks
+  pub some : 0 < getD degrees (originIn source (twin h)) 0
+  pub stackRoom : at .stacked < length stack
+  pub listRoom : at .found < length out
+
+-- the node stacked last
+abbrev pub topOf : List ℕ → Progress → ℕ
+topOf stack at = getD stack (at .stacked - 1) 0
+
+-- what one turn asks, for some counts: a node is stacked, the tables count right, and the list has room for an edge where one is taken
+pub record Turning (offsets grouped source degrees : List ℕ) (nodeMarks halfMarks : List Bool) (stack out : List ℕ) (at : Progress) : Type 0 where
+  pub nodes : ℕ
+  pub edges : ℕ
+  pub some : 0 < at .stacked
+  pub stackRoom : at .stacked ≤ length stack
+  pub node : topOf stack at < nodes
+  pub starred : Starred nodes edges offsets grouped source
+  pub counted : Counted nodes edges (groupOf offsets grouped) degrees nodeMarks halfMarks
+  pub listEnd : at .found ≤ length out
+  pub listRoom : getD degrees (topOf stack at) 0 ≡ 1 → at .found < length out
+
+-- what pruning leaves where the rule makes p of the tables: its tables, its edges in the order found over the list, their count, and stage 2
+pub record Left (graph : PlanarGraph) (p : Pruning) (degrees : List ℕ) (nodeMarks halfMarks : List Bool) (old out : List ℕ) (r : PruneDone) : Type 0 where
+  pub degree : degrees ≡ p .degrees
+  pub nodeMark : nodeMarks ≡ p .nodeMarks
+  pub halfMark : halfMarks ≡ p .halfMarks
+  pub listed : out ≡ over (reverse (p .found)) old
+  pub count : r .count ≡ length (p .found)
+  pub nodes : r .graph .«node_count» ≡ graph .«node_count»
+  pub edges : r .graph .«edge_count» ≡ graph .«edge_count»
+  pub stage : r .graph .stage ≡ 2

@@ -1,0 +1,9 @@
+-- Laws of splitting, walking, summing and sides over the tables.
+pub mod Entries
+pub mod Parts
+pub mod Splitting
+pub mod Walking
+pub mod Rows
+pub mod Summing
+pub mod Siding
+pub mod Meaning

@@ -1,0 +1,4 @@
+-- Stars in the flat star table: grouping them by node, and putting each into angular order. Read in this order.
+pub mod Grouped
+pub mod Rows
+pub mod Sorted
