@@ -1,10 +1,8 @@
 -- Demand 3 of every run: the steps of a run are the calls of the rules' claim, since each meets its clause.
-use Prim.Native.Nat.{ℕ}
 use mathlib.Core.Path.{_≡_, refl, sym, ap, subst, _∙_}
-use mathlib.Core.Bool.{Bool, true, false}
+use mathlib.Core.Bool.{true}
 use mathlib.Core.List.{List, [], _∷_}
-use lib.ListN.{length}
-use Rattle.geometry.specs.Reply.{Reply, refused, success}
+use Rattle.geometry.specs.Reply.{Reply, success}
 use Rattle.rules.specs.Limits.{limits}
 use Rattle.lists.specs.Lists.{upto}
 use Rattle.rules.specs.State.{State, roomy, arrangement, pointOf}
@@ -12,7 +10,7 @@ use Rattle.rules.specs.Adding.{Outcome, Nothing, add}
 use Rattle.rules.specs.Stages.{create, created, sort, pruneStep, cutStep, reset}
 use Rattle.rules.specs.Ringing.{RingLists, Ringing, ringStep}
 use Rattle.rules.specs.Sketch.{Sketch, pointAt, sketched, Call, feed, adding, sorting, pruning, cutting, ringing, resetting}
-use Rattle.rules.specs.Claim.{isRefused, After, World, call, turnWorld, history, emptySketch, ringsFrom, RingRules, SideRules, Claim, SoundClaim, Real, AllReal}
+use Rattle.rules.specs.Claim.{isRefused, World, call, turnWorld, history, emptySketch, ringsFrom, RingRules, SideRules, Claim, SoundClaim, Real, AllReal}
 use Rattle.rules.proofs.Replies.{demand-passed}
 use Rattle.rules.proofs.Histories.{demand-3, demand-3-sound}
 use Rattle.planar_graph.specs.Clauses.{Creates}

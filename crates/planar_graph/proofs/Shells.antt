@@ -1,19 +1,26 @@
 -- The tests of a public entry, one after another: the first that fails gives its refusal and leaves everything, and where all pass the
 -- rest is what follows.
-use Prim.Native.Nat.{ℕ, _<_}
+use Prim.Native.Nat.{ℕ, _<_, _≤_}
 use mathlib.Core.Path.{_≡_, refl, sym, ap, _∙_}
 use mathlib.Core.Bool.{Bool, true, false, cond}
 use mathlib.Core.List.{List}
 use lib.Dec.{eqb, leb}
 use lib.ListN.{length}
 use native.Mathlib.Omega.{arith}
-use borrow.Author.Tests.{eqb-true, eq-eqb, lt-leb}
+use borrow.Author.Tests.{eqb-true, eq-eqb, lt-leb, le-leb}
 use Rattle.geometry.specs.declared.Line3D.{Line3D}
-use Rattle.geometry.specs.Reply.{Reply, refused, success}
+use Rattle.geometry.specs.Reply.{refused, success}
+use Rattle.lists.specs.Lists.{over}
+use Rattle.rules.specs.Cycles.{Arrangement}
+use Rattle.rules.specs.Sane.{Sane}
+use Rattle.rules.specs.Split.{cuts}
+use Rattle.rules.specs.Euler.{census}
+use Rattle.rules.proofs.Soundness.{is-sound}
+use Rattle.rules.proofs.Tables.{sound-sane}
 use Rattle.rules.specs.Limits.{Limits}
-use Rattle.rules.specs.State.{State, roomy, sound}
+use Rattle.rules.specs.State.{State, arrangementIn, arrangement, roomy, sound}
 use Rattle.rules.specs.Adding.{Outcome, demand, Nothing, add}
-use Rattle.rules.specs.Stages.{create, created, step, sort, pruneStep, cutStep, reset}
+use Rattle.rules.specs.Stages.{create, created, next, step, sort, pruneStep, Cutting, markEdges, cutStep, reset}
 use Rattle.tables.specs.Refusals.{refusalNumber}
 use Rattle.tables.specs.declared.Refusal.{Refusal}
 use Rattle.tables.specs.declared.Refusal.the-variants.{TableTooShort, Unsound, WrongStage, ListTooShort}
@@ -183,6 +190,25 @@ cut-stops l s out why e = step-stops l 2 s out _ why e
 pub cut-short : (l : Limits) (s : State) (out : List ℕ) → Good l s → s .stage ≡ 2 → length out < s .edges → turnedDown ListTooShort s out ≡ cutStep l s out
 unfolding cutStep
 cut-short l s out g t e = stops 8 s out _ (leb (s .edges) (length out)) (lt-leb (s .edges) (length out) e) ∙ step-passes l 2 s out _ g t
+
+-- the arrangement that a state's tables hold
+abbrev held : State → Arrangement
+held s = arrangementIn (s .nodes) (s .edges) (s .source) (s .halfMark) (s .star)
+
+-- where all tests pass
+pub cut-passes : (l : Limits) (s : State) (out : List ℕ) → Good l s → s .stage ≡ 2 → s .edges ≤ length out
+    → _≡_ {A = Outcome Cutting (List ℕ)} (record {
+      reply = success (record { count = length (cuts (held s)); census = census (held s) });
+      state = next s 3 (s .degree) (s .nodeMark) (markEdges (cuts (held s)) (s .halfMark)) (s .star);
+      lists = over (cuts (held s)) out;
+    }) (cutStep l s out)
+unfolding cutStep arrangement
+cut-passes l s out g t e = passes 8 s out _ (leb (s .edges) (length out)) (le-leb (s .edges) (length out) e) ∙ step-passes l 2 s out _ g t
+
+-- the half-edges of a sound state are a sane arrangement
+pub held-sane : (l : Limits) (s : State) → Good l s → Sane (held s)
+unfolding arrangement
+held-sane l s g = sound-sane l s (is-sound l s (g .sense))
 
 -- ---- creating
 

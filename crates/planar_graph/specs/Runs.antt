@@ -1,8 +1,6 @@
 -- A run: calls from a newly created graph, each of which meets the clause that its entry ensures and takes up what the last one left.
 -- Demand 3 is one theorem about runs.
 use Prim.Native.Nat.{ℕ}
-use mathlib.Core.Path.{_≡_}
-use mathlib.Core.Bool.{Bool}
 use mathlib.Core.List.{List, [], _∷_}
 use Rattle.lists.specs.Lists.{upto}
 use Rattle.geometry.specs.Reply.{Reply, success}
@@ -11,7 +9,7 @@ use Rattle.rules.specs.State.{State, arrangement, pointOf}
 use Rattle.rules.specs.Adding.{Nothing, Added}
 use Rattle.rules.specs.Stages.{Cutting}
 use Rattle.rules.specs.Ringing.{RingLists, Ringing}
-use Rattle.rules.specs.Sketch.{Sketch, pointAt, sketched, Call, feed, adding, sorting, pruning, cutting, ringing, resetting}
+use Rattle.rules.specs.Sketch.{Sketch, pointAt, sketched, feed, adding, sorting, pruning, cutting, ringing, resetting}
 use Rattle.rules.specs.Claim.{isRefused, emptySketch, ringsFrom, RingRules, SideRules, Given64}
 use Rattle.planar_graph.specs.Clauses.{Creates, Adds, Sorts, Prunes, Cuts, Extracts, Resets}
 

@@ -3,6 +3,8 @@
 mod add;
 mod checks;
 mod creating;
+mod cut;
+mod prune;
 mod resetting;
 mod sort;
 
@@ -10,8 +12,11 @@ pub use add::add_line;
 pub use adding::AddReply;
 pub use adding::Added;
 pub use creating::create;
+pub use cut::delete_cut_edges;
+pub use cycles::Census;
 pub use geometry::Coord3D;
 pub use geometry::Line3D;
+pub use prune::prune_dangles;
 pub use resetting::reset;
 pub use sort::sort_edges;
 pub use tables::DirEdgeId;
@@ -37,4 +42,27 @@ pub enum StepReply {
 pub struct Stepped {
     pub graph: PlanarGraph,
     pub reply: StepReply,
+}
+
+// What pruning answers: how many dangles it listed, or a refusal.
+pub enum PruneReply {
+    Dangles(u16),
+    Refused(Refusal),
+}
+
+pub struct Pruned {
+    pub graph: PlanarGraph,
+    pub reply: PruneReply,
+}
+
+// What cutting answers: how many edges it listed, with V, E, cycles, C and the verdict as they were
+// before, or a refusal.
+pub enum CutReply {
+    Cuts(u16, Census),
+    Refused(Refusal),
+}
+
+pub struct Cutting {
+    pub graph: PlanarGraph,
+    pub reply: CutReply,
 }

@@ -1,7 +1,7 @@
 -- `check_stage` meets its contract: where numbers 6 and 7 pass, the stage decides.
 use borrow.Author.Needs.{needs}
 use borrow.Author.Tests.{eq-eqb, ne-eqb}
-use mathlib.Core.Path.{_≡_, sym, ap, _∙_}
+use mathlib.Core.Path.{sym, ap, _∙_}
 use mathlib.Core.Bool.{Bool, cond}
 use Rattle.rules.specs.Limits.{limits}
 use Rattle.rules.specs.State.{State}

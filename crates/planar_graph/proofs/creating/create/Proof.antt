@@ -1,6 +1,6 @@
 -- `create` meets its clause: number 6 is tested, and nothing else.
 use borrow.Author.Needs.{needs}
-use mathlib.Core.Path.{_≡_, sym, _∙_}
+use mathlib.Core.Path.{sym, _∙_}
 use Rattle.rules.specs.Limits.{limits}
 use Rattle.planar_graph.proofs.Shells.{create-stops, create-makes}
 use Rattle.planar_graph.proofs.creating.create.Statement.{statement}

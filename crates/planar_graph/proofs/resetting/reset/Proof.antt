@@ -1,6 +1,6 @@
 -- `reset` meets its clause: where numbers 6 and 7 pass, `reset_tables` writes what the rules write.
 use borrow.Author.Needs.{needs}
-use mathlib.Core.Path.{_≡_, sym, ap, _∙_}
+use mathlib.Core.Path.{sym, _∙_}
 use Rattle.rules.specs.Limits.{limits}
 use Rattle.rules.specs.State.{State}
 use Rattle.geometry.specs.Reply.{success}

@@ -1,6 +1,6 @@
 -- `sort_edges` meets its clause: where numbers 6, 7 and 5 pass, `sort_stars` writes the sorted star table.
 use borrow.Author.Needs.{needs}
-use mathlib.Core.Path.{_≡_, sym, ap, _∙_}
+use mathlib.Core.Path.{_≡_, sym, _∙_}
 use Rattle.rules.specs.Limits.{limits}
 use Rattle.rules.specs.State.{State}
 use Rattle.geometry.specs.Reply.{success}
