@@ -1,6 +1,6 @@
 -- The tests of a public entry, one after another: the first that fails gives its refusal and leaves everything, and where all pass the
 -- rest is what follows.
-use Prim.Native.Nat.{ℕ, _<_, _≤_}
+use Prim.Native.Nat.{ℕ, _*_, _<_, _≤_}
 use mathlib.Core.Path.{_≡_, refl, sym, ap, _∙_}
 use mathlib.Core.Bool.{Bool, true, false, cond}
 use mathlib.Core.List.{List}
@@ -21,6 +21,7 @@ use Rattle.rules.specs.Limits.{Limits}
 use Rattle.rules.specs.State.{State, arrangementIn, arrangement, roomy, sound}
 use Rattle.rules.specs.Adding.{Outcome, demand, Nothing, add}
 use Rattle.rules.specs.Stages.{create, created, next, step, sort, pruneStep, Cutting, markEdges, cutStep, reset}
+use Rattle.rules.specs.Ringing.{RingLists, longEnough, ringed, ringStep}
 use Rattle.tables.specs.Refusals.{refusalNumber}
 use Rattle.tables.specs.declared.Refusal.{Refusal}
 use Rattle.tables.specs.declared.Refusal.the-variants.{TableTooShort, Unsound, WrongStage, ListTooShort}
@@ -209,6 +210,21 @@ cut-passes l s out g t e = passes 8 s out _ (leb (s .edges) (length out)) (le-le
 pub held-sane : (l : Limits) (s : State) → Good l s → Sane (held s)
 unfolding arrangement
 held-sane l s g = sound-sane l s (is-sound l s (g .sense))
+
+-- ---- ring extraction: stage 3, and lists with an entry for each half-edge
+
+pub ring-stops : (l : Limits) (s : State) (out : RingLists) (why : Refusal) → Refused why ≡ stageCheck l 3 s → turnedDown why s out ≡ ringStep l s out
+unfolding ringStep
+ring-stops l s out why e = step-stops l 3 s out _ why e
+
+pub ring-short : (l : Limits) (s : State) (out : RingLists) → Good l s → s .stage ≡ 3 → longEnough (2 * s .edges) out ≡ false
+    → turnedDown ListTooShort s out ≡ ringStep l s out
+unfolding ringStep
+ring-short l s out g t e = stops 8 s out (ringed s out) (longEnough (2 * s .edges) out) e ∙ step-passes l 3 s out _ g t
+
+pub ring-passes : (l : Limits) (s : State) (out : RingLists) → Good l s → s .stage ≡ 3 → longEnough (2 * s .edges) out ≡ true → ringed s out ≡ ringStep l s out
+unfolding ringStep
+ring-passes l s out g t e = passes 8 s out (ringed s out) (longEnough (2 * s .edges) out) e ∙ step-passes l 3 s out _ g t
 
 -- ---- creating
 

@@ -3,6 +3,7 @@ use Prim.Native.Nat.{ℕ}
 use Rattle.geometry.specs.Reply.{Reply, refused, success}
 use Rattle.rules.specs.Adding.{Nothing}
 use Rattle.rules.specs.Stages.{Cutting}
+use Rattle.rules.specs.Ringing.{Ringing}
 use Rattle.cycles.specs.Census.{censusOf}
 use Rattle.tables.specs.Refusals.{refusalNumber}
 use Rattle.tables.specs.declared.PlanarGraph.{PlanarGraph}
@@ -14,6 +15,8 @@ use Rattle.planar_graph.specs.declared.PruneReply.{PruneReply}
 use Rattle.planar_graph.specs.declared.PruneReply.the-variants as prune
 use Rattle.planar_graph.specs.declared.CutReply.{CutReply}
 use Rattle.planar_graph.specs.declared.CutReply.the-variants as cut
+use Rattle.planar_graph.specs.declared.RingReply.{RingReply}
+use Rattle.planar_graph.specs.declared.RingReply.the-variants as ring
 
 -- creating: success alone, or the number
 abbrev pub createdReply : Created → Reply Nothing
@@ -39,3 +42,8 @@ pruneReply (prune.Refused why) = refused (refusalNumber why)
 abbrev pub cutReply : CutReply → Reply Cutting
 cutReply (cut.Cuts n c) = success (record { count = n; census = censusOf c })
 cutReply (cut.Refused why) = refused (refusalNumber why)
+
+-- ring extraction: the count and the census, or the number
+abbrev pub ringReply : RingReply → Reply Ringing
+ringReply (ring.Rings n c) = success (record { count = n; census = censusOf c })
+ringReply (ring.Refused why) = refused (refusalNumber why)

@@ -4,6 +4,8 @@ mod add;
 mod checks;
 mod creating;
 mod cut;
+mod extract;
+mod lengths;
 mod prune;
 mod resetting;
 mod sort;
@@ -14,6 +16,7 @@ pub use adding::Added;
 pub use creating::create;
 pub use cut::delete_cut_edges;
 pub use cycles::Census;
+pub use extract::extract_rings;
 pub use geometry::Coord3D;
 pub use geometry::Line3D;
 pub use prune::prune_dangles;
@@ -65,4 +68,16 @@ pub enum CutReply {
 pub struct Cutting {
     pub graph: PlanarGraph,
     pub reply: CutReply,
+}
+
+// What ring extraction answers: how many rings it listed, with V, E, cycles, C and the verdict, or a
+// refusal.
+pub enum RingReply {
+    Rings(u16, Census),
+    Refused(Refusal),
+}
+
+pub struct Ringed {
+    pub graph: PlanarGraph,
+    pub reply: RingReply,
 }

@@ -1,0 +1,214 @@
+-- `extract_grouped` meets its contract. What the callees ensure, put together by the laws of `Numbering` and `Outcome`.
+use borrow.Author.Needs.{needs}
+use Prim.Native.Nat.{ℕ, _*_, _≤_}
+use native.Mathlib.Omega.{arith}
+use mathlib.Core.Path.{_≡_, refl, sym, ap, subst, _∙_}
+use mathlib.Core.Bool.{Bool, true}
+use mathlib.Core.List.{List}
+use lib.Ieee.{Float}
+use lib.ListN.{length, take}
+use lib.Seq.{length-take-le}
+use Rattle.lists.specs.Lists.{flatten, over}
+use Rattle.rules.specs.Limits.{limits}
+use Rattle.rules.specs.Split.{minimalRings}
+use Rattle.rules.specs.State.{State, arrangement, sound}
+use Rattle.rules.specs.Ringing.{sideNumber, sideArea}
+use Rattle.rules.proofs.Histories.{fine-limits}
+use Rattle.rules.proofs.Soundness.{is-roomy, is-sound}
+use Rattle.rules.proofs.Replies.{rings-of-halves}
+use Rattle.tables.specs.Tables.{stateOf}
+use Rattle.stars.specs.Grouped.{Grouped}
+use Rattle.cycles.specs.Census.{censusOf}
+use Rattle.rings.specs.Sides.{sideOf, sideIn}
+use Rattle.rings.proofs.Meaning.{rings-read, places-replied, sizes-replied, sides-replied}
+use Rattle.faces.specs.Numbers.{ringsAt, faceNumbers, Numberable}
+use Rattle.extracting.specs.Listing.{RingsListed}
+use Rattle.extracting.proofs.Numbering.{rings-few, flat-few, sides-asked, faces-replied, numberable}
+use Rattle.extracting.proofs.Outcome.{arrangement-is, held-sane, total-is, rings-many}
+use Rattle.extracting.proofs.extract_grouped.Statement.{statement}
+use Rattle.extracting.proofs.extract_grouped.Tie as tie
+
+-- ---- what is known after each call, in any sound state that has the tables
+
+-- the state with the tables that are not read
+abbrev held : tie.Start → List Float → List ℕ → List Bool → List Float → List ℕ → List ℕ → List ℕ → State
+held s zs ds nm lines ids target star =
+    stateOf (s .args .graph) (s .args .nodes-x .now) (s .args .nodes-y .now) zs ds nm lines ids (s .args .dir-edges-src .now) target (s .args .dir-edges-marked .now) star
+
+-- the groups are its stars
+abbrev Stars : tie.Start → List ℕ → Type 0
+Stars s star = Grouped (s .args .graph .«node_count») (s .args .dir-edges-src .now) (take (2 * s .args .graph .«edge_count») star) (s .args .offsets .now) (s .args .grouped .now)
+
+-- the state that is asked for
+abbrev own : tie.Start → State
+own s = let p = s .pre in held s (p .nodesZ) (p .degree) (p .nodesMarked) (p .lines) (p .lineIds) (p .target) (p .star)
+
+-- the start, from the listing
+abbrev start : tie.After-list-rings → tie.Start
+start w = w .before .before .before .before .before .before .before .before .before .before .before .before .before .before .before .before
+
+-- the lists that were filled
+abbrev rows : tie.After-list-rings → List ℕ
+rows w = w .list-rings .last .1 .1 .1 .1 .1 .0
+
+abbrev first : tie.After-list-rings → List ℕ
+first w = w .list-rings .last .1 .1 .1 .1 .1 .1 .0
+
+abbrev size : tie.After-list-rings → List ℕ
+size w = w .list-rings .last .1 .1 .1 .1 .1 .1 .1 .0
+
+-- they hold the rings
+got : (w : tie.After-list-rings) (zs : List Float) (ds : List ℕ) (nm : List Bool) (lines : List Float) (ids target star : List ℕ) → sound limits (held (start w) zs ds nm lines ids target star) ≡ true → Stars (start w) star
+    → RingsListed (arrangement (held (start w) zs ds nm lines ids target star)) (start w .args .half-edges .now) (start w .args .ring-first .now) (start w .args .ring-length .now) (rows w) (first w) (size w) (w .list-rings .result)
+got w zs ds nm lines ids target star sense gs =
+    let s = start w in
+    subst (λ g. RingsListed g (s .args .half-edges .now) (s .args .ring-first .now) (s .args .ring-length .now) (rows w) (first w) (size w) (w .list-rings .result))
+    (arrangement-is (held s zs ds nm lines ids target star)) (w .list-rings .ensures star gs (held-sane limits (held s zs ds nm lines ids target star) sense))
+
+-- the listing, from where the total is known
+abbrev listing : tie.After-wide → tie.After-list-rings
+listing y = y .before .before .before .before .before .before .before .before .before .before .before .before .before .before .before .before .before .before
+
+-- the total is that of the rings
+whole : (y : tie.After-wide) (zs : List Float) (ds : List ℕ) (nm : List Bool) (lines : List Float) (ids target star : List ℕ) → sound limits (held (start (listing y)) zs ds nm lines ids target star) ≡ true → Stars (start (listing y)) star
+    → 2 * y .wide .result ≡ length (flatten (minimalRings (arrangement (held (start (listing y)) zs ds nm lines ids target star))))
+whole y zs ds nm lines ids target star sense gs =
+    let w = listing y in
+    ap (λ k. 2 * k) (y .wide .ensures) ∙ total-is limits (held (start w) zs ds nm lines ids target star) sense (censusOf (w .list-rings .result .census)) (got w zs ds nm lines ids target star sense gs .counted)
+
+-- and within the list
+inside : (y : tie.After-wide) → 2 * y .wide .result ≤ length (rows (listing y))
+inside y =
+    let w = listing y in
+    let p = start w .pre in
+    omega (arith, whole y (p .nodesZ) (p .degree) (p .nodesMarked) (p .lines) (p .lineIds) (p .target) (p .star) (p .sense) (p .groups), flat-few limits (own (start w)) (p .sense), p .long .inHalfEdges, w .list-rings .kept .1 .1 .1 .1 .1 .0)
+
+-- ---- the needs
+
+list-rings-requires : tie.Need-list-rings-requires
+list-rings-requires c κs =
+    let s = c .before .before .before .before .before .before .before .before .before .before .before .before .before .before .before in
+    let p = s .pre in
+    let k = own s in
+    let r = is-roomy limits k (p .roomed) in
+    let ok = is-sound limits k (p .sense) in (
+      record {
+        star = p .star;
+        groups = p .groups;
+        sane = held-sane limits k (p .sense);
+        fewNodes = ok .nodes;
+        fewEdges = ok .edges;
+        inSource = omega (arith, ok .edges, r .source);
+        inMarks = omega (arith, ok .edges, r .halfMark);
+      },
+      record { inHalfEdges = p .long .inHalfEdges; inFirst = p .long .inFirst; inSize = p .long .inSize },
+    )
+
+write-sides-requires : tie.Need-write-sides-requires
+write-sides-requires c κs =
+    let w = c .before .before .before .before .before .before .before .before .before .before .before .before in
+    let s = start w in
+    let p = s .pre in
+    sides-asked limits (own s) (p .sense) (s .args .half-edges .now) (s .args .ring-first .now) (s .args .ring-length .now) (rows w) (first w) (size w) (w .list-rings .result .count) (got w (p .nodesZ) (p .degree) (p .nodesMarked) (p .lines) (p .lineIds) (p .target) (p .star) (p .sense) (p .groups) .listed)
+    (length (s .args .ring-side .now)) (length (s .args .ring-area .now)) (p .roomed) (p .long .inHalfEdges) (p .long .inFirst) (p .long .inSize) (p .long .inSide) (p .long .inArea)
+
+wide-requires : tie.Need-wide-requires
+wide-requires c κs = search needs
+
+mul-total : tie.Need-mul-total
+mul-total c = search needs
+
+slice-reshare-prefix-number-faces : tie.Need-slice-reshare-prefix-number-faces
+slice-reshare-prefix-number-faces c = inside c
+
+slice-aggregate-number-faces : tie.Need-slice-aggregate-number-faces
+slice-aggregate-number-faces c =
+    let y = c .before in
+    sym (length-take-le (2 * y .wide .result) (rows (listing y)) (inside y))
+
+wide-requires-2 : tie.Need-wide-requires-2
+wide-requires-2 c κs = search needs
+
+number-faces-requires : tie.Need-number-faces-requires
+number-faces-requires c κs =
+    let y = c .before .before .before .before .before .before in
+    let v = c .before .before .before .before .before .before .before .before .before .before .before in
+    let w = listing y in
+    let s = start w in
+    let p = s .pre in
+    let k = own s in
+    let h = got w (p .nodesZ) (p .degree) (p .nodesMarked) (p .lines) (p .lineIds) (p .target) (p .star) (p .sense) (p .groups) .listed in
+    let n = c .before .before .wide2 .ensures in (
+      subst (λ m. Numberable limits (take (2 * y .wide .result) (rows w)) (first w) (size w) m (s .args .dir-edges-src .now) (s .args .nodes-x .now) (s .args .nodes-y .now) (v .write-sides .last .1 .1 .1 .1 .1 .1 .1 .1 .0)) (sym n)
+          (numberable limits k (p .sense) (s .args .half-edges .now) (s .args .ring-first .now) (s .args .ring-length .now) (rows w) (first w) (size w) (w .list-rings .result .count) h (2 * y .wide .result) (whole y (p .nodesZ) (p .degree) (p .nodesMarked) (p .lines) (p .lineIds) (p .target) (p .star) (p .sense) (p .groups)) (p .roomed) fine-limits (p .long .inFirst) (p .long .inSize)
+          (s .args .ring-area .now) (v .write-sides .last .1 .1 .1 .1 .1 .1 .1 .1 .0) (v .write-sides .ensures .1)),
+      omega (arith, n, h .number, rings-few k, p .long .inFace),
+    )
+
+same-length : tie.Need-same-length
+same-length c = search needs
+
+same-length-2 : tie.Need-same-length-2
+same-length-2 c = search needs
+
+same-length-3 : tie.Need-same-length-3
+same-length-3 c = search needs
+
+same-length-4 : tie.Need-same-length-4
+same-length-4 c = search needs
+
+same-length-5 : tie.Need-same-length-5
+same-length-5 c = search needs
+
+same-length-6 : tie.Need-same-length-6
+same-length-6 c = search needs
+
+returns : tie.Need-returns
+returns c =
+    let x = c .before .before in
+    let y = x .before .before .before .before .before .before .before in
+    let v = y .before .before .before .before .before in
+    let w = listing y in
+    let s = start w in
+    let total : ℕ = 2 * y .wide .result in
+    λ zs ds nm lines ids target star sense gs.
+    let k = held s zs ds nm lines ids target star in
+    let q = got w zs ds nm lines ids target star sense gs in
+    let h = q .listed in
+    record {
+      advanced = refl;
+      count = h .number ∙ rings-many k;
+      counted = q .counted;
+      halfEdges = h .rows ∙ ap (λ r. over (flatten r) (s .args .half-edges .now)) (sym (rings-of-halves k));
+      first = h .places ∙ ap (λ r. over r (s .args .ring-first .now)) (places-replied k);
+      size = h .sizes ∙ ap (λ r. over r (s .args .ring-length .now)) (sizes-replied k);
+      face = x .number-faces .ensures ∙ ap (λ r. over r (s .args .ring-face .now))
+          (ap (λ n. faceNumbers (ringsAt (take total (rows w)) (first w) (size w) n (s .args .dir-edges-src .now) (s .args .nodes-x .now) (s .args .nodes-y .now))) (x .before .before .before .wide2 .ensures)
+          ∙ faces-replied limits k sense (s .args .half-edges .now) (s .args .ring-first .now) (s .args .ring-length .now) (rows w) (first w) (size w) (w .list-rings .result .count) h total (whole y zs ds nm lines ids target star sense gs));
+      side = v .write-sides .ensures .0 ∙ ap (λ r. over r (s .args .ring-side .now))
+          (rings-read (minimalRings (arrangement k)) (s .args .half-edges .now) (s .args .ring-first .now) (s .args .ring-length .now) (rows w) (first w) (size w) (w .list-rings .result .count) h (λ r. sideNumber (sideOf (sideIn (s .args .dir-edges-src .now) (s .args .nodes-x .now) (s .args .nodes-y .now) r)))
+          ∙ sides-replied sideNumber limits fine-limits k sense);
+      area = v .write-sides .ensures .1 ∙ ap (λ r. over r (s .args .ring-area .now))
+          (rings-read (minimalRings (arrangement k)) (s .args .half-edges .now) (s .args .ring-first .now) (s .args .ring-length .now) (rows w) (first w) (size w) (w .list-rings .result .count) h (λ r. sideArea (sideOf (sideIn (s .args .dir-edges-src .now) (s .args .nodes-x .now) (s .args .nodes-y .now) r)))
+          ∙ sides-replied sideArea limits fine-limits k sense);
+    }
+
+pub extract-grouped-spec : {M : Type 1} → statement M
+extract-grouped-spec =
+    tie.close
+    (tie.spec
+    list-rings-requires
+    write-sides-requires
+    wide-requires
+    mul-total
+    slice-reshare-prefix-number-faces
+    slice-aggregate-number-faces
+    wide-requires-2
+    number-faces-requires
+    same-length
+    same-length-2
+    same-length-3
+    same-length-4
+    same-length-5
+    same-length-6
+    returns)

@@ -1,0 +1,3 @@
+-- What listing the rings and the whole of ring extraction ask and leave.
+pub mod Listing
+pub mod Extraction

@@ -1,0 +1,85 @@
+// Ring extraction over grouped stars: the rings are listed, then their sides, areas and face
+// numbers are written. Carried over from planar_graph.rs.
+mod listing;
+
+pub use listing::RingCount;
+pub use listing::list_rings;
+ghost use Rattle.rules.specs.Limits.{limits};
+ghost use Rattle.extracting.specs.Extraction.{listsOf, Extractable, Extracts};
+use tables::PlanarGraph;
+
+// What ring extraction answers: the graph in its last stage, how many rings there are, and the
+// census taken before splitting.
+pub struct Extracted {
+    pub graph: PlanarGraph,
+    pub count: u16,
+    pub census: cycles::Census,
+}
+
+// Ring extraction over stars that are grouped by node. Each active edge has both halves in rings,
+// so the rings take twice as many entries as there are active edges.
+pub fn extract_grouped(
+    graph: PlanarGraph,
+    nodes_x: &[f64],
+    nodes_y: &[f64],
+    dir_edges_src: &[u16],
+    dir_edges_marked: &[bool],
+    offsets: &[u16],
+    grouped: &[u16],
+    half_edges: &mut [u16],
+    ring_first: &mut [u16],
+    ring_length: &mut [u16],
+    ring_face: &mut [u16],
+    ring_side: &mut [u8],
+    ring_area: &mut [f64],
+) -> Extracted
+    requires { ⌜ Extractable limits graph (now «nodes_x») (now «nodes_y») (now «dir_edges_src») (now «dir_edges_marked») (now offsets) (now grouped) (listsOf (now «half_edges») (now «ring_first») (now «ring_length») (now «ring_face») (now «ring_side») (now «ring_area»)) ⌝ }
+    ensures { λ r. ⌜ Extracts limits graph (now («nodes_x» .entry)) (now («nodes_y» .entry)) (now («dir_edges_src» .entry)) (now («dir_edges_marked» .entry)) (now (offsets .entry)) (now (grouped .entry))
+        (listsOf (now («half_edges» .entry)) (now («ring_first» .entry)) (now («ring_length» .entry)) (now («ring_face» .entry)) (now («ring_side» .entry)) (now («ring_area» .entry)))
+        (listsOf (now («half_edges» .exit)) (now («ring_first» .exit)) (now («ring_length» .exit)) (now («ring_face» .exit)) (now («ring_side» .exit)) (now («ring_area» .exit))) r ⌝ }
+{
+    let listed = list_rings(
+        graph,
+        offsets,
+        grouped,
+        dir_edges_src,
+        dir_edges_marked,
+        half_edges,
+        ring_first,
+        ring_length,
+    );
+    let count = listed.count;
+    let census = listed.census;
+    rings::write_sides(
+        count,
+        ring_first,
+        ring_length,
+        half_edges,
+        nodes_x,
+        nodes_y,
+        dir_edges_src,
+        ring_side,
+        ring_area,
+    );
+    let total = 2 * tables::wide(census.edges);
+    faces::number_faces(
+        &half_edges[..total],
+        ring_first,
+        ring_length,
+        tables::wide(count),
+        dir_edges_src,
+        nodes_x,
+        nodes_y,
+        ring_area,
+        ring_face,
+    );
+    Extracted {
+        graph: PlanarGraph {
+            node_count: graph.node_count,
+            edge_count: graph.edge_count,
+            stage: 4,
+        },
+        count,
+        census,
+    }
+}

@@ -1,0 +1,56 @@
+// The rings of an arrangement, listed, and its census before splitting.
+ghost use Rattle.rules.specs.Limits.{limits};
+ghost use Rattle.cycles.specs.Arranged.{Arranged};
+ghost use Rattle.cycles.specs.Groups.{InEach};
+ghost use Rattle.extracting.specs.Listing.{RingRoom, RingsListed};
+
+// How many rings were listed, and the census.
+pub struct RingCount {
+    pub count: u16,
+    pub census: cycles::Census,
+}
+
+// Links, labels and counts the maximal rings, splits them, and lists the rings.
+pub fn list_rings(
+    graph: tables::PlanarGraph,
+    offsets: &[u16],
+    grouped: &[u16],
+    dir_edges_src: &[u16],
+    dir_edges_marked: &[bool],
+    half_edges: &mut [u16],
+    ring_first: &mut [u16],
+    ring_length: &mut [u16],
+) -> RingCount
+    requires { ⌜ (Arranged limits (graph .«node_count») (graph .«edge_count») (now «dir_edges_src») (now «dir_edges_marked») (now offsets) (now grouped)) × (RingRoom (graph .«edge_count») (now «half_edges») (now «ring_first») (now «ring_length»)) ⌝ }
+    ensures { λ r. ⌜ InEach (graph .«node_count») (graph .«edge_count») (now («dir_edges_src» .entry)) (now («dir_edges_marked» .entry)) (now (offsets .entry)) (now (grouped .entry)) (λ g. RingsListed g (now («half_edges» .entry)) (now («ring_first» .entry)) (now («ring_length» .entry)) (now («half_edges» .exit)) (now («ring_first» .exit)) (now («ring_length» .exit)) r) ⌝ }
+{
+    let mut next = [0u16; 2048];
+    let mut labels = [0u16; 2048];
+    cycles::link_successors(graph, offsets, grouped, dir_edges_marked, &mut next);
+    let maximal = cycles::label_rings(graph.edge_count, &next, dir_edges_marked, &mut labels);
+    let census = cycles::count_census(
+        graph,
+        offsets,
+        grouped,
+        dir_edges_src,
+        dir_edges_marked,
+        maximal,
+    );
+    rings::split_rings(
+        graph,
+        offsets,
+        grouped,
+        dir_edges_marked,
+        &labels,
+        &mut next,
+    );
+    let count = rings::walk_rings(
+        graph.edge_count,
+        &next,
+        dir_edges_marked,
+        half_edges,
+        ring_first,
+        ring_length,
+    );
+    RingCount { count, census }
+}
