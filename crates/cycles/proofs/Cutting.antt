@@ -12,7 +12,7 @@ use Rattle.lists.specs.Lists.{below, bit, In, over}
 use Rattle.lists.proofs.Counts.{by-test, in-head, in-tail, below-yes, below-no, below-le, length-below}
 use Rattle.lists.proofs.Members.{below-in}
 use Rattle.rules.specs.Stages.{markEdges}
-use Rattle.cycles.specs.Groups.{unmarked}
+use Rattle.stars.specs.Groups.{unmarked}
 use Rattle.cycles.specs.Cuts.{cutBy, cutsBy}
 use Rattle.cycles.proofs.Entries.{over-set}
 

@@ -19,7 +19,7 @@ use Rattle.rules.proofs.CycleLaws.{cycle-live}
 use Rattle.rules.proofs.Marking.{mark, stamp}
 use Rattle.rules.proofs.Sweep.{cycle-stamp}
 use Rattle.rules.proofs.Naming.{Named, name, name-given, name-used-le, name-new, name-inactive, name-has, name-label, name-used}
-use Rattle.cycles.specs.Groups.{unmarked}
+use Rattle.stars.specs.Groups.{unmarked}
 use Rattle.cycles.specs.Labels.{entryOf, written, Labelled}
 
 -- ---- one walk

@@ -1,19 +1,11 @@
--- entries, and stars as parts of one list
+-- entries
 pub mod Entries
-pub mod Parts
 -- links
 pub mod Linking
 -- labels
 pub mod Labelling
 -- cut edges
 pub mod Cutting
--- pieces
-pub mod Reaching
-pub mod Filling
-pub mod Stars
-pub mod Turns
-pub mod Piecing
-pub mod Spreading
 -- Euler's formula
 pub mod Balance
 -- the whole

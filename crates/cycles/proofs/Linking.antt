@@ -17,9 +17,9 @@ use Rattle.rules.specs.State.{arrangementIn}
 use Rattle.rules.proofs.Twin.{twin-twin, twin-injective}
 use Rattle.rules.proofs.Successor.{successor-is, onward-in, star-leaves, star-distinct, ends}
 use Rattle.stars.specs.Grouped.{Grouped}
-use Rattle.cycles.specs.Groups.{unmarked, part, groupOf, GroupsWithin}
+use Rattle.stars.specs.Groups.{unmarked, part, groupOf}
 use Rattle.cycles.specs.Links.{linkFrom, linkStar, Linked}
-use Rattle.cycles.proofs.Parts.{part-yes, part-no}
+use Rattle.stars.proofs.Groups.{part-yes, part-no, group-active}
 
 -- ---- one turn of the loop over a star
 
@@ -83,22 +83,6 @@ module _ (nodes edges : ℕ) (source : List ℕ) (marks : List Bool) (star offse
   abbrev held : Arrangement
   held = arrangementIn nodes edges source marks star
 
-  -- what is picked of a node's group is its active star
-  pub group-active : (n : ℕ) → n < nodes → pick (unmarked marks) (groupOf offsets grouped n) ≡ activeStar held n
-  unfolding activeStar
-  group-active n l = ap (pick (unmarked marks)) (groups .stars n l)
-
-  -- groups are parts of half-edges
-  pub groups-within : GroupsWithin nodes (2 * edges) offsets grouped
-  groups-within = record {
-    room = groups .room;
-    each = λ n l. record {
-      rises = groups .rises n l;
-      ends = groups .ends (suc n) l;
-      low = λ h m. sane .only n h l (subst (λ s. In h s) (groups .stars n l) m) .0;
-    };
-  }
-
   module _ (next : List ℕ) (room : 2 * edges ≤ length next) where
     -- once its end's star is linked, a half-edge has its successor
     linked-after : (n : ℕ) → n ≤ nodes → (h : ℕ) → Live (halves held) (held .active) h → held .origin (twin h) < n
@@ -107,7 +91,7 @@ module _ (nodes edges : ℕ) (source : List ℕ) (marks : List Bool) (star offse
     linked-after (suc n) l h a q =
         let s = pick (unmarked marks) (groupOf offsets grouped n) in
         let t = linkNodes (unmarked marks) offsets grouped n next in
-        let same : s ≡ activeStar held n = group-active n l in
+        let same : s ≡ activeStar held n = group-active nodes edges source marks star offsets grouped groups sane n l in
         let m : In (twin h) (activeStar held (held .origin (twin h))) = onward-in held sane h (a .0) (a .1) in
         by-eq (held .origin (twin h)) n
         (λ e.

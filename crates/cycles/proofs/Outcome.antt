@@ -5,19 +5,21 @@ use mathlib.Core.Path.{_≡_, refl, sym, ap, ap₂, _∙_}
 use mathlib.Core.Bool.{Bool, _&&_}
 use mathlib.Core.List.{List}
 use lib.Dec.{eqb}
-use lib.ListN.{length, getD, replicate, length-replicate, getD-replicate, List·getD-eq-default}
-use Rattle.lists.specs.Lists.{below}
+use lib.ListN.{length, getD, take, replicate, length-replicate, getD-replicate, List·getD-eq-default}
+use Rattle.lists.specs.Lists.{below, pick}
 use Rattle.lists.proofs.Counts.{by-test, by-lt, below-agree}
 use Rattle.rules.specs.Cycles.{Arrangement, successor, label, maximalRings}
 use Rattle.rules.specs.Split.{isCut, cuts}
-use Rattle.rules.specs.Euler.{Census as Counts, vertexCount, edgeCount, pieceCount, census}
+use Rattle.rules.specs.Euler.{Census as Counts, someOf, touched, vertexCount, edgeCount, pieceCount, census}
 use Rattle.rules.specs.Sane.{Sane, Live, Permutes}
 use Rattle.rules.specs.State.{arrangementIn}
 use Rattle.rules.proofs.Permuting.{permutes-same, label-agree, cycles-agree}
 use Rattle.rules.proofs.LabelLaws.{label-inactive}
 use Rattle.rules.proofs.Rings.{label-is, maximal-rings-are, successor-permutes}
 use Rattle.rules.proofs.Counting.{cut-is, cuts-are}
-use Rattle.cycles.specs.Groups.{unmarked}
+use Rattle.stars.specs.Grouped.{Grouped}
+use Rattle.stars.specs.Groups.{unmarked, groupOf}
+use Rattle.stars.proofs.Groups.{group-active}
 use Rattle.cycles.specs.Labels.{entryOf, Labelled}
 use Rattle.cycles.specs.Cuts.{cutBy, cutsBy}
 
@@ -26,6 +28,19 @@ pub zeros : (k n : ℕ) → _≡_ {A = ℕ} (getD (replicate k 0) n 0) 0
 zeros k n = by-lt n k
     (λ h. getD-replicate k n 0 0 h)
     (λ h. List·getD-eq-default (replicate k 0) 0 (omega (arith, length-replicate {A = ℕ} k 0)))
+
+-- a star with an active half-edge touches its node
+pub group-touched : (nodes edges : ℕ) (source : List ℕ) (marks : List Bool) (star offsets grouped : List ℕ)
+    → Grouped nodes source (take (2 * edges) star) offsets grouped → Sane (arrangementIn nodes edges source marks star)
+    → (n : ℕ) → n < nodes → someOf (pick (unmarked marks) (groupOf offsets grouped n)) ≡ touched (arrangementIn nodes edges source marks star) n
+unfolding touched
+group-touched nodes edges source marks star offsets grouped groups sane n l =
+    ap someOf (group-active nodes edges source marks star offsets grouped groups sane n l)
+
+-- V, its parts shut
+pub vertices-are : (g : Arrangement) → vertexCount g ≡ length (below (touched g) (g .nodes))
+unfolding vertexCount
+vertices-are g = refl
 
 -- E, its parts shut
 pub edges-are : (g : Arrangement) → edgeCount g ≡ length (below (λ k. g .active (2 * k) && g .active (2 * k + 1)) (g .edges))

@@ -6,7 +6,7 @@ use lib.Dec.{eqb}
 use lib.ListN.{length, getD}
 use Rattle.lists.specs.Lists.{below}
 use Rattle.rules.specs.Limits.{Limits}
-use Rattle.cycles.specs.Groups.{unmarked}
+use Rattle.stars.specs.Groups.{unmarked}
 
 -- both halves are active and have one label
 abbrev pub cutBy : List Bool → List ℕ → ℕ → Bool

@@ -7,7 +7,7 @@ use lib.ListN.{length, getD, set}
 use Rattle.rules.specs.Cycles.{cycles, labelOf}
 use Rattle.rules.specs.Sane.{Live, Permutes}
 use Rattle.rules.specs.Limits.{Limits}
-use Rattle.cycles.specs.Groups.{unmarked}
+use Rattle.stars.specs.Groups.{unmarked}
 
 -- the entries of a table as a function
 abbrev pub entryOf : List ℕ → ℕ → ℕ

@@ -8,7 +8,7 @@ use Rattle.lists.specs.Lists.{pick, lastOf}
 use Rattle.rules.specs.HalfEdge.{twin}
 use Rattle.rules.specs.Cycles.{halves, successor}
 use Rattle.rules.specs.Sane.{Live}
-use Rattle.cycles.specs.Groups.{InEach}
+use Rattle.stars.specs.Groups.{InEach}
 
 -- the twin of each half-edge gets the half-edge before it; the first one's gets `before`
 abbrev pub linkFrom : ℕ → List ℕ → List ℕ → List ℕ

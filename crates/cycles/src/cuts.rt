@@ -6,7 +6,7 @@ ghost use Rattle.lists.specs.Lists.{over};
 ghost use Rattle.rules.specs.Limits.{limits};
 ghost use Rattle.rules.specs.Stages.{markEdges};
 ghost use Rattle.cycles.specs.Cuts.{cutBy, cutsBy, Cuttable};
-use super::reads::wide;
+use tables::wide;
 
 // Whether edge k is to be cut.
 fn is_cut(k: usize, labels: &[u16], dir_edges_marked: &[bool]) -> bool

@@ -3,18 +3,34 @@ ghost use mathlib.Core.Path.{_≡_};
 ghost use Prim.Native.Nat.{ℕ, _+_, _*_, _≤_};
 ghost use lib.Dec.{eqb};
 ghost use lib.ListN.{length};
-ghost use Rattle.lists.specs.Lists.{below};
+ghost use Rattle.lists.specs.Lists.{below, pick};
 ghost use mathlib.Core.Bool.{_&&_};
 ghost use mathlib.Core.List.{List};
 ghost use Rattle.rules.specs.Cycles.{maximalRings};
-ghost use Rattle.rules.specs.Euler.{vertexCount, census};
+ghost use Rattle.rules.specs.Euler.{someOf, vertexCount, census};
 ghost use Rattle.rules.specs.Limits.{limits};
-ghost use Rattle.cycles.specs.Groups.{unmarked, GroupsWithin, InEach};
+ghost use Rattle.stars.specs.Groups.{unmarked, part, PartWithin, GroupsWithin, InEach};
 ghost use Rattle.cycles.specs.Census.{censusOf};
-ghost use Rattle.cycles.specs.Reach.{Spreadable};
-use super::pieces::count_pieces;
-use super::pieces::has_active;
-use super::reads::wide;
+ghost use Rattle.pieces.specs.Reach.{Spreadable};
+ghost use Rattle.pieces.specs.Seeds.{Placed};
+use pieces::number_pieces;
+use stars::is_active;
+use tables::wide;
+
+// Whether a star has an active half-edge.
+fn has_active(grouped: &[u16], from: usize, to: usize, dir_edges_marked: &[bool]) -> bool
+    requires { ⌜ PartWithin (length (now «dir_edges_marked»)) from to (now grouped) ⌝ }
+    ensures { λ r. ⌜ r ≡ someOf (pick (unmarked (now («dir_edges_marked» .entry))) (part from to (now (grouped .entry)))) ⌝ }
+{
+    let mut i = from;
+    while i < to {
+        if is_active(dir_edges_marked, grouped[i]) {
+            return true;
+        }
+        i += 1;
+    }
+    false
+}
 
 // V: the nodes with an active half-edge.
 fn count_vertices(
@@ -72,27 +88,29 @@ fn euler_holds(vertices: u16, edges: u16, cycles: u16, pieces: u16) -> bool
 // Counts everything, given how many maximal rings there are.
 pub fn count_census(
     graph: tables::PlanarGraph,
+    nodes_x: &[f64],
+    nodes_y: &[f64],
     offsets: &[u16],
     grouped: &[u16],
     dir_edges_src: &[u16],
     dir_edges_marked: &[bool],
     cycles: u16,
 ) -> super::Census
-    requires { ⌜ (Spreadable (graph .«node_count») (graph .«edge_count») (now «dir_edges_src») (now «dir_edges_marked») (now offsets) (now grouped)) × (graph .«node_count» ≤ limits .nodes) × (graph .«edge_count» ≤ limits .edges) ⌝ }
+    requires { ⌜ (Spreadable (graph .«node_count») (graph .«edge_count») (now «dir_edges_src») (now «dir_edges_marked») (now offsets) (now grouped)) × (Placed (graph .«node_count») (now «nodes_x») (now «nodes_y»)) × (graph .«node_count» ≤ limits .nodes) × (graph .«edge_count» ≤ limits .edges) ⌝ }
     ensures { λ r. ⌜ InEach (graph .«node_count») (graph .«edge_count») (now («dir_edges_src» .entry)) (now («dir_edges_marked» .entry)) (now (offsets .entry)) (now (grouped .entry)) (λ g. cycles ≡ length (maximalRings g) → censusOf r ≡ census g) ⌝ }
 {
     let mut numbers = [0u16; 1024];
-    let mut stack = [0u16; 1024];
     let vertices = count_vertices(graph, offsets, grouped, dir_edges_marked);
     let edges = count_edges(graph.edge_count, dir_edges_marked);
-    let pieces = count_pieces(
+    let pieces = number_pieces(
         graph,
+        nodes_x,
+        nodes_y,
         offsets,
         grouped,
         dir_edges_src,
         dir_edges_marked,
         &mut numbers,
-        &mut stack,
     );
     let verdict = euler_holds(vertices, edges, cycles, pieces);
     super::Census {

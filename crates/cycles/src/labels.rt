@@ -8,7 +8,7 @@ ghost use Rattle.rules.specs.Cycles.{cycle};
 ghost use Rattle.rules.specs.Limits.{limits};
 ghost use Rattle.rules.specs.Sane.{Live, Permutes};
 ghost use Rattle.cycles.specs.Labels.{entryOf, written, Walkable, Labelable, Labelled};
-use super::reads::wide;
+use tables::wide;
 
 // No label yet for the first n half-edges.
 fn clear_labels(labels: &mut [u16], n: usize)

@@ -4,18 +4,16 @@ mod cuts;
 mod euler;
 mod labels;
 mod links;
-mod pieces;
-mod reads;
 
 pub use cuts::cut_edges;
 pub use euler::count_census;
 pub use labels::label_rings;
 pub use links::link_successors;
-pub use pieces::count_pieces;
 ghost use Prim.Native.Nat.{_≤_};
 ghost use lib.ListN.{length};
 ghost use Rattle.rules.specs.Limits.{limits};
-ghost use Rattle.cycles.specs.Groups.{InEach};
+ghost use Rattle.stars.specs.Groups.{InEach};
+ghost use Rattle.pieces.specs.Seeds.{Placed};
 ghost use Rattle.cycles.specs.Arranged.{Arranged, CutOf};
 
 // What cutting and ring extraction count: V, E, the maximal rings, C, and whether Euler's formula
@@ -39,13 +37,15 @@ pub struct CutDone {
 // Cutting over stars that are grouped by node.
 pub fn cut_grouped(
     graph: tables::PlanarGraph,
+    nodes_x: &[f64],
+    nodes_y: &[f64],
     offsets: &[u16],
     grouped: &[u16],
     dir_edges_src: &[u16],
     dir_edges_marked: &mut [bool],
     out: &mut [u16],
 ) -> CutDone
-    requires { ⌜ (Arranged limits (graph .«node_count») (graph .«edge_count») (now «dir_edges_src») (now «dir_edges_marked») (now offsets) (now grouped)) × (graph .«edge_count» ≤ length (now out)) ⌝ }
+    requires { ⌜ (Arranged limits (graph .«node_count») (graph .«edge_count») (now «dir_edges_src») (now «dir_edges_marked») (now offsets) (now grouped)) × (Placed (graph .«node_count») (now «nodes_x») (now «nodes_y»)) × (graph .«edge_count» ≤ length (now out)) ⌝ }
     ensures { λ r. ⌜ InEach (graph .«node_count») (graph .«edge_count») (now («dir_edges_src» .entry)) (now («dir_edges_marked» .entry)) (now (offsets .entry)) (now (grouped .entry)) (λ g. CutOf g graph (now («dir_edges_marked» .entry)) (now (out .entry)) (now («dir_edges_marked» .exit)) (now (out .exit)) r) ⌝ }
 {
     let mut next = [0u16; 2048];
@@ -54,6 +54,8 @@ pub fn cut_grouped(
     let cycles = labels::label_rings(graph.edge_count, &next, dir_edges_marked, &mut labels);
     let census = euler::count_census(
         graph,
+        nodes_x,
+        nodes_y,
         offsets,
         grouped,
         dir_edges_src,

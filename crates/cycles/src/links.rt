@@ -4,10 +4,10 @@ ghost use Prim.Native.Nat.{ℕ, _*_, _<_, _≤_};
 ghost use lib.ListN.{length};
 ghost use Rattle.lists.specs.Lists.{In, pick, lastOf};
 ghost use Rattle.rules.specs.HalfEdge.{twin};
-ghost use Rattle.cycles.specs.Groups.{unmarked, part, PartWithin, GroupsWithin};
+ghost use Rattle.stars.specs.Groups.{unmarked, part, PartWithin, GroupsWithin};
 ghost use Rattle.cycles.specs.Links.{linkStar, Linked};
-use super::reads::is_active;
-use super::reads::wide;
+use stars::is_active;
+use tables::wide;
 
 // The last active half-edge of a star, or 0 where there is none.
 fn last_active(grouped: &[u16], from: usize, to: usize, dir_edges_marked: &[bool]) -> u16

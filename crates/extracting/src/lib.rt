@@ -40,6 +40,8 @@ pub fn extract_grouped(
 {
     let listed = list_rings(
         graph,
+        nodes_x,
+        nodes_y,
         offsets,
         grouped,
         dir_edges_src,

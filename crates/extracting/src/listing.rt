@@ -1,7 +1,8 @@
 // The rings of an arrangement, listed, and its census before splitting.
 ghost use Rattle.rules.specs.Limits.{limits};
 ghost use Rattle.cycles.specs.Arranged.{Arranged};
-ghost use Rattle.cycles.specs.Groups.{InEach};
+ghost use Rattle.stars.specs.Groups.{InEach};
+ghost use Rattle.pieces.specs.Seeds.{Placed};
 ghost use Rattle.extracting.specs.Listing.{RingRoom, RingsListed};
 
 // How many rings were listed, and the census.
@@ -13,6 +14,8 @@ pub struct RingCount {
 // Links, labels and counts the maximal rings, splits them, and lists the rings.
 pub fn list_rings(
     graph: tables::PlanarGraph,
+    nodes_x: &[f64],
+    nodes_y: &[f64],
     offsets: &[u16],
     grouped: &[u16],
     dir_edges_src: &[u16],
@@ -21,7 +24,7 @@ pub fn list_rings(
     ring_first: &mut [u16],
     ring_length: &mut [u16],
 ) -> RingCount
-    requires { ⌜ (Arranged limits (graph .«node_count») (graph .«edge_count») (now «dir_edges_src») (now «dir_edges_marked») (now offsets) (now grouped)) × (RingRoom (graph .«edge_count») (now «half_edges») (now «ring_first») (now «ring_length»)) ⌝ }
+    requires { ⌜ (Arranged limits (graph .«node_count») (graph .«edge_count») (now «dir_edges_src») (now «dir_edges_marked») (now offsets) (now grouped)) × (Placed (graph .«node_count») (now «nodes_x») (now «nodes_y»)) × (RingRoom (graph .«edge_count») (now «half_edges») (now «ring_first») (now «ring_length»)) ⌝ }
     ensures { λ r. ⌜ InEach (graph .«node_count») (graph .«edge_count») (now («dir_edges_src» .entry)) (now («dir_edges_marked» .entry)) (now (offsets .entry)) (now (grouped .entry)) (λ g. RingsListed g (now («half_edges» .entry)) (now («ring_first» .entry)) (now («ring_length» .entry)) (now («half_edges» .exit)) (now («ring_first» .exit)) (now («ring_length» .exit)) r) ⌝ }
 {
     let mut next = [0u16; 2048];
@@ -30,6 +33,8 @@ pub fn list_rings(
     let maximal = cycles::label_rings(graph.edge_count, &next, dir_edges_marked, &mut labels);
     let census = cycles::count_census(
         graph,
+        nodes_x,
+        nodes_y,
         offsets,
         grouped,
         dir_edges_src,

@@ -2,8 +2,6 @@
 pub mod Rows
 pub mod KeyLists
 pub mod Rankings
-pub mod Halving
-pub mod Inserting
 pub mod Places
 pub mod Rings
 pub mod Filled

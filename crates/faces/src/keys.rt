@@ -9,6 +9,7 @@ ghost use Rattle.rotation.specs.Rotation.{keyBefore, keyAt, keysOf, leastRotati
 ghost use Rattle.faces.specs.Listed.{partOf};
 ghost use Rattle.faces.specs.Keys.{bitsFrom, Startable, turnOf, turnedKeys, Turns, keysOrder};
 use crate::wide;
+use rotation::RotationStart;
 
 // How one list of keys stands to another.
 pub enum KeysOrder {
@@ -39,13 +40,17 @@ pub fn write_bits(half_edges: &[u16], dir_edges_src: &[u16], coordinates: &[f64]
     }
 }
 
-// Where the least rotation of a ring's keys starts.
+// Where the least rotation of a ring's keys starts. The two parts are of one length, so that none is
+// refused.
 fn turn_of(xs: &[u64], ys: &[u64], first: usize, size: usize) -> u16
     requires { ⌜ (0 < size) × (size < 65536) × (first + size ≤ length (keysOf (now xs) (now ys))) ⌝ }
     ensures { λ r. ⌜ r ≡ leastRotation (partOf first size (keysOf (now (xs .entry)) (now (ys .entry)))) ⌝ }
 {
     let end = first + size;
-    rotation::rotation_index(&xs[first..end], &ys[first..end]) as u16
+    match rotation::minimum_rotation_index(&xs[first..end], &ys[first..end]) {
+        RotationStart::At(at) => at as u16,
+        RotationStart::LengthsDiffer => 0,
+    }
 }
 
 // The same for each ring.

@@ -6,3 +6,6 @@ pub mod Rounds
 pub mod Sorting
 pub mod Searching
 pub mod Passing
+pub mod Entries
+pub mod Halving
+pub mod Inserting

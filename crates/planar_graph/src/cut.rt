@@ -71,6 +71,8 @@ pub fn delete_cut_edges(
     );
     let done = cycles::cut_grouped(
         graph,
+        nodes_x,
+        nodes_y,
         &offsets,
         &grouped,
         dir_edges_src,

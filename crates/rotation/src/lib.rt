@@ -81,7 +81,7 @@ fn lesser(a: usize, b: usize) -> usize
 
 // Two candidates are compared entry by entry. Where they differ, no rotation that starts at the
 // greater one or at its entries passed so far is least, so that candidate moves past them.
-pub fn rotation_index(xs: &[u64], ys: &[u64]) -> usize
+fn rotation_index(xs: &[u64], ys: &[u64]) -> usize
     requires { ⌜ length (now xs) ≡ length (now ys) ⌝ }
     ensures { λ r. ⌜ r ≡ leastRotation (keysOf (now (xs .entry)) (now (ys .entry))) ⌝ }
 {

@@ -4,6 +4,8 @@ pub mod Rows
 pub mod Counting
 pub mod Placing
 pub mod Grouping
+-- a star as a part of the row
+pub mod Groups
 -- the insertion sort of one star, and of the stars in a row
 pub mod Insertion
 pub mod Points

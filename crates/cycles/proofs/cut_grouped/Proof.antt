@@ -4,8 +4,8 @@ use mathlib.Core.Path.{refl, ap, _∙_}
 use Rattle.lists.specs.Lists.{over}
 use lib.ListN.{length}
 use Rattle.rules.specs.Stages.{markEdges}
-use Rattle.cycles.proofs.Linking.{groups-within}
-use Rattle.cycles.proofs.Stars.{spreads}
+use Rattle.stars.proofs.Groups.{groups-within}
+use Rattle.pieces.proofs.Stars.{spreads}
 use Rattle.cycles.proofs.Outcome.{next-permutes, rings-right, cuts-right}
 use borrow.Author.Needs.{needs}
 use Rattle.cycles.proofs.cut_grouped.Statement.{statement}
@@ -16,7 +16,7 @@ slice-aggregate-link-successors c = search needs
 
 link-successors-requires : tie.Need-link-successors-requires
 link-successors-requires c κs =
-    let s = c .before .before .before .before .before .before .before in
+    let s = c .before .before .before .before .before .before .before .before .before in
     let p = s .pre .0 in
     let graph = s .args .graph in
     (groups-within (graph .«node_count») (graph .«edge_count») (s .args .dir-edges-src .now) (s .args .dir-edges-marked .now) (p .star) (s .args .offsets .now) (s .args .grouped .now) (p .groups) (p .sane), p .inMarks, omega (arith, p .fewEdges))
@@ -29,7 +29,7 @@ slice-aggregate-label-rings-2 c = search needs
 
 label-rings-requires : tie.Need-label-rings-requires
 label-rings-requires c κs =
-    let s = c .before .before .before .before .before .before .before .before .before .before .before .before in
+    let s = c .before .before .before .before .before .before .before .before .before .before .before .before .before .before in
     let p = s .pre .0 in
     let graph = s .args .graph in
     let next = c .before .before .before .before .link-successors .last .1 .1 .1 .1 .0 in
@@ -43,16 +43,24 @@ label-rings-requires c κs =
 
 count-census-requires : tie.Need-count-census-requires
 count-census-requires c κs =
-    let s = c .before .before .before .before .before .before .before .before .before .before .before .before .before .before .before in
+    let s = c .before .before .before .before .before .before .before .before .before .before .before .before .before .before .before .before .before in
     let p = s .pre .0 in
     let graph = s .args .graph in
-    (spreads (graph .«node_count») (graph .«edge_count») (s .args .dir-edges-src .now) (s .args .dir-edges-marked .now) (s .args .offsets .now) (s .args .grouped .now) (p .star) (p .groups) (p .sane) (p .inSource) (p .inMarks), p .fewNodes, p .fewEdges)
+    (spreads (graph .«node_count») (graph .«edge_count») (s .args .dir-edges-src .now) (s .args .dir-edges-marked .now) (s .args .offsets .now) (s .args .grouped .now) (p .star) (p .groups) (p .sane) (p .inSource) (p .inMarks), s .pre .1, p .fewNodes, p .fewEdges)
 
 slice-aggregate-cut-edges : tie.Need-slice-aggregate-cut-edges
 slice-aggregate-cut-edges c = search needs
 
 cut-edges-requires : tie.Need-cut-edges-requires
-cut-edges-requires c κs = search needs
+cut-edges-requires c κs =
+    let s = c .before .before .before .before .before .before .before .before .before .before .before .before .before .before .before .before .before .before .before .before .before in
+    let p = s .pre .0 in
+    record {
+      few = p .fewEdges;
+      inLabels = omega (arith, p .fewEdges, c .before .before .before .before .before .before .label-rings .kept .1 .1 .1 .0);
+      inMarks = p .inMarks;
+      inOut = s .pre .2;
+    }
 
 same-length : tie.Need-same-length
 same-length c = search needs
@@ -62,7 +70,7 @@ same-length-2 c = search needs
 
 returns : tie.Need-returns
 returns c =
-    let s = c .before .before .before .before .before .before .before .before .before .before .before .before .before .before .before .before .before .before .before .before .before .before .before .before in
+    let s = c .before .before .before .before .before .before .before .before .before .before .before .before .before .before .before .before .before .before .before .before .before .before .before .before .before .before in
     let graph = s .args .graph in
     let next = c .before .before .before .before .before .before .before .before .before .before .before .before .before .before .before .before .link-successors .last .1 .1 .1 .1 .0 in
     let labels = c .before .before .before .before .before .before .before .before .before .before .before .label-rings .last .1 .1 .1 .0 in

@@ -18,6 +18,7 @@ use Rattle.rules.proofs.Soundness.{is-roomy, is-sound}
 use Rattle.rules.proofs.Replies.{rings-of-halves}
 use Rattle.tables.specs.Tables.{stateOf}
 use Rattle.stars.specs.Grouped.{Grouped}
+use Rattle.stars.proofs.Sound.{sound-sortable}
 use Rattle.cycles.specs.Census.{censusOf}
 use Rattle.rings.specs.Sides.{sideOf, sideIn}
 use Rattle.rings.proofs.Meaning.{rings-read, places-replied, sizes-replied, sides-replied}
@@ -49,13 +50,13 @@ start w = w .before .before .before .before .before .before .before .before .bef
 
 -- the lists that were filled
 abbrev rows : tie.After-list-rings → List ℕ
-rows w = w .list-rings .last .1 .1 .1 .1 .1 .0
+rows w = w .list-rings .last .1 .1 .1 .1 .1 .1 .1 .0
 
 abbrev first : tie.After-list-rings → List ℕ
-first w = w .list-rings .last .1 .1 .1 .1 .1 .1 .0
+first w = w .list-rings .last .1 .1 .1 .1 .1 .1 .1 .1 .0
 
 abbrev size : tie.After-list-rings → List ℕ
-size w = w .list-rings .last .1 .1 .1 .1 .1 .1 .1 .0
+size w = w .list-rings .last .1 .1 .1 .1 .1 .1 .1 .1 .1 .0
 
 -- they hold the rings
 got : (w : tie.After-list-rings) (zs : List Float) (ds : List ℕ) (nm : List Bool) (lines : List Float) (ids target star : List ℕ) → sound limits (held (start w) zs ds nm lines ids target star) ≡ true → Stars (start w) star
@@ -81,7 +82,7 @@ inside : (y : tie.After-wide) → 2 * y .wide .result ≤ length (rows (listing 
 inside y =
     let w = listing y in
     let p = start w .pre in
-    omega (arith, whole y (p .nodesZ) (p .degree) (p .nodesMarked) (p .lines) (p .lineIds) (p .target) (p .star) (p .sense) (p .groups), flat-few limits (own (start w)) (p .sense), p .long .inHalfEdges, w .list-rings .kept .1 .1 .1 .1 .1 .0)
+    omega (arith, whole y (p .nodesZ) (p .degree) (p .nodesMarked) (p .lines) (p .lineIds) (p .target) (p .star) (p .sense) (p .groups), flat-few limits (own (start w)) (p .sense), p .long .inHalfEdges, w .list-rings .kept .1 .1 .1 .1 .1 .1 .1 .0)
 
 -- ---- the needs
 
@@ -101,6 +102,7 @@ list-rings-requires c κs =
         inSource = omega (arith, ok .edges, r .source);
         inMarks = omega (arith, ok .edges, r .halfMark);
       },
+      sound-sortable limits k (p .roomed) (p .sense) .located,
       record { inHalfEdges = p .long .inHalfEdges; inFirst = p .long .inFirst; inSize = p .long .inSize },
     )
 
@@ -116,7 +118,10 @@ wide-requires : tie.Need-wide-requires
 wide-requires c κs = search needs
 
 mul-total : tie.Need-mul-total
-mul-total c = search needs
+mul-total c =
+    let s = start (listing c) in
+    let p = s .pre in
+    omega (arith, whole c (p .nodesZ) (p .degree) (p .nodesMarked) (p .lines) (p .lineIds) (p .target) (p .star) (p .sense) (p .groups), flat-few limits (own s) (p .sense), is-sound limits (own s) (p .sense) .edges)
 
 slice-reshare-prefix-number-faces : tie.Need-slice-reshare-prefix-number-faces
 slice-reshare-prefix-number-faces c = inside c

@@ -4,7 +4,7 @@ use native.Mathlib.Omega.{arith}
 use borrow.Author.Needs.{needs}
 use mathlib.Core.Path.{sym, _∙_}
 use mathlib.Core.Bool.{true, false}
-use Rattle.cycles.proofs.Entries.{getD-any}
+use Rattle.lists.proofs.Entries.{getD-any}
 use Rattle.cycles.proofs.Cutting.{cut-first, cut-second, cut-labels}
 use Rattle.cycles.proofs.cuts.is_cut.Statement.{statement}
 use Rattle.cycles.proofs.cuts.is_cut.Tie as tie

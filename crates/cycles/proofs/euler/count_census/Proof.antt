@@ -1,7 +1,8 @@
--- `cycles::euler::count_census` meets its contract. Its parts are what the callees count.
+-- `cycles::euler::count_census` meets its contract. What the callees ensure, part by part.
 use native.Mathlib.Omega.{arith}
 use mathlib.Core.Path.{sym, _∙_}
 use Rattle.rules.specs.State.{arrangementIn}
+use Rattle.pieces.proofs.Numbering.{count-each}
 use Rattle.cycles.proofs.Outcome.{zeros, edges-are, census-is}
 use borrow.Author.Needs.{needs}
 use Rattle.cycles.proofs.euler.count_census.Statement.{statement}
@@ -13,14 +14,13 @@ count-vertices-requires c κs = search needs
 count-edges-requires : tie.Need-count-edges-requires
 count-edges-requires c κs = search needs
 
-slice-aggregate-count-pieces : tie.Need-slice-aggregate-count-pieces
-slice-aggregate-count-pieces c = search needs
+slice-aggregate-number-pieces : tie.Need-slice-aggregate-number-pieces
+slice-aggregate-number-pieces c = search needs
 
-slice-aggregate-count-pieces-2 : tie.Need-slice-aggregate-count-pieces-2
-slice-aggregate-count-pieces-2 c = search needs
-
-count-pieces-requires : tie.Need-count-pieces-requires
-count-pieces-requires c κs = let s = c .before .before .before .before .before .before .before .before in (s .pre .0, s .pre .1, omega arith, λ n l. zeros 1024 n)
+number-pieces-requires : tie.Need-number-pieces-requires
+number-pieces-requires c κs =
+    let p = c .before .before .before .before .before .before .before .before .before .pre in
+    record { spreads = p .0; placed = p .1; few = p .2; inPieces = p .2; short = omega arith; clear = λ n l. zeros 1024 n }
 
 euler-holds-requires : tie.Need-euler-holds-requires
 euler-holds-requires c κs = search needs
@@ -28,14 +28,14 @@ euler-holds-requires c κs = search needs
 returns : tie.Need-returns
 returns c =
     let s = c .before .before .before .before .before .before .before .before .before .before .before .before in
-    let graph = s .args .graph in
+    let a = s .args in
     λ star gs sane rings.
-    let g = arrangementIn (graph .«node_count») (graph .«edge_count») (s .args .dir-edges-src .now) (s .args .dir-edges-marked .now) star in
-    census-is g (c .before .before .before .before .before .before .before .count-vertices .result) (c .before .before .before .before .before .before .count-edges .result) (s .args .cycles) (c .before .before .before .count-pieces .result) (c .euler-holds .result)
-    (c .before .before .before .before .before .before .before .count-vertices .ensures (s .args .dir-edges-src .now) star gs sane)
-    (c .before .before .before .before .before .before .count-edges .ensures ∙ sym (edges-are g))
+    let g = arrangementIn (a .graph .«node_count») (a .graph .«edge_count») (a .dir-edges-src .now) (a .dir-edges-marked .now) star in
+    census-is g (c .before .before .before .before .before .count-vertices .result) (c .before .before .before .before .count-edges .result) (a .cycles) (c .before .before .number-pieces .result) (c .euler-holds .result)
+    (c .before .before .before .before .before .count-vertices .ensures (a .dir-edges-src .now) star gs sane)
+    (c .before .before .before .before .count-edges .ensures ∙ sym (edges-are g))
     rings
-    (c .before .before .before .count-pieces .ensures star gs sane)
+    (count-each (a .graph) (a .nodes-x .now) (a .nodes-y .now) (a .dir-edges-src .now) (a .dir-edges-marked .now) (a .offsets .now) (a .grouped .now) _ (c .before .before .number-pieces .result) (c .before .before .number-pieces .ensures) star gs sane)
     (c .euler-holds .ensures)
 
 pub count-census-spec : {M : Type 1} → statement M
@@ -44,8 +44,7 @@ count-census-spec =
     (tie.spec
     count-vertices-requires
     count-edges-requires
-    slice-aggregate-count-pieces
-    slice-aggregate-count-pieces-2
-    count-pieces-requires
+    slice-aggregate-number-pieces
+    number-pieces-requires
     euler-holds-requires
     returns)

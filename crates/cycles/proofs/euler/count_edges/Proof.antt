@@ -10,8 +10,8 @@ use lib.ListN.{length, getD}
 use Rattle.lists.specs.Lists.{below, bit}
 use Rattle.lists.proofs.Counts.{length-below}
 use Rattle.rules.proofs.Values.{both-true}
-use Rattle.cycles.specs.Groups.{unmarked}
-use Rattle.cycles.proofs.Entries.{getD-any}
+use Rattle.stars.specs.Groups.{unmarked}
+use Rattle.lists.proofs.Entries.{getD-any}
 use Rattle.cycles.proofs.euler.count_edges.Statement.{statement}
 use Rattle.cycles.proofs.euler.count_edges.Tie as tie
 

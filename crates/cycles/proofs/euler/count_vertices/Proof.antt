@@ -11,9 +11,9 @@ use Rattle.lists.specs.Lists.{below, bit, pick}
 use Rattle.lists.proofs.Counts.{below-agree, length-below}
 use Rattle.rules.specs.Euler.{someOf, touched}
 use Rattle.rules.specs.State.{arrangementIn}
-use Rattle.cycles.specs.Groups.{unmarked, groupOf}
-use Rattle.cycles.proofs.Parts.{within-more, group-part, group-within}
-use Rattle.cycles.proofs.Piecing.{group-touched, vertices-are}
+use Rattle.stars.specs.Groups.{unmarked, groupOf}
+use Rattle.stars.proofs.Groups.{within-more, group-part, group-within}
+use Rattle.cycles.proofs.Outcome.{group-touched, vertices-are}
 use Rattle.cycles.proofs.euler.count_vertices.Statement.{statement}
 use Rattle.cycles.proofs.euler.count_vertices.Tie as tie
 

@@ -9,9 +9,9 @@ use lib.ListN.{length, getD, replicate}
 use Rattle.lists.specs.Lists.{over}
 use Rattle.rules.specs.Cycles.{cycle}
 use Rattle.rules.specs.Sane.{Permutes}
-use Rattle.cycles.specs.Groups.{unmarked}
+use Rattle.stars.specs.Groups.{unmarked}
 use Rattle.cycles.specs.Labels.{entryOf, written}
-use Rattle.cycles.proofs.Entries.{getD-any}
+use Rattle.lists.proofs.Entries.{getD-any}
 use Rattle.cycles.proofs.Labelling.{length-written, Held, held-first, held-new, held-marked, held-has, held-all}
 use Rattle.cycles.proofs.labels.label_rings.Statement.{statement}
 use Rattle.cycles.proofs.labels.label_rings.Tie as tie

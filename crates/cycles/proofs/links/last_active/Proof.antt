@@ -5,8 +5,8 @@ use mathlib.Core.Path.{_≡_, refl, sym, ap, _∙_}
 use mathlib.Core.Logic.{⊎-elim}
 use mathlib.Core.Bool.{Bool}
 use Rattle.lists.specs.Lists.{pick, lastOf}
-use Rattle.cycles.specs.Groups.{unmarked, part}
-use Rattle.cycles.proofs.Parts.{part-end, part-in, part-yes, part-no}
+use Rattle.stars.specs.Groups.{unmarked, part}
+use Rattle.stars.proofs.Groups.{part-end, part-in, part-yes, part-no}
 use Rattle.cycles.proofs.links.last_active.Statement.{statement}
 use Rattle.cycles.proofs.links.last_active.Tie as tie
 

@@ -8,9 +8,9 @@ use mathlib.Core.Bool.{Bool}
 use lib.ListN.{length, getD, set, length-set}
 use Rattle.lists.specs.Lists.{pick}
 use Rattle.rules.specs.HalfEdge.{twin}
-use Rattle.cycles.specs.Groups.{unmarked, part}
+use Rattle.stars.specs.Groups.{unmarked, part}
 use Rattle.cycles.specs.Links.{linkFrom, linkStar}
-use Rattle.cycles.proofs.Parts.{part-end, part-in}
+use Rattle.stars.proofs.Groups.{part-end, part-in}
 use Rattle.cycles.proofs.Linking.{link-yes, link-no}
 use Rattle.cycles.proofs.links.link_star.Statement.{statement}
 use Rattle.cycles.proofs.links.link_star.Tie as tie

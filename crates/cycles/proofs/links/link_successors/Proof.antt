@@ -6,10 +6,10 @@ use borrow.Author.Needs.{needs}
 use mathlib.Core.Path.{_≡_, refl, sym, ap, _∙_, subst}
 use mathlib.Core.Bool.{Bool}
 use lib.ListN.{length}
-use Rattle.cycles.specs.Groups.{unmarked, groupOf, PartWithin}
+use Rattle.stars.specs.Groups.{unmarked, groupOf, PartWithin}
 use Rattle.cycles.specs.Links.{linkStar, Linked}
 use Rattle.rules.proofs.Twin.{twin-below}
-use Rattle.cycles.proofs.Parts.{within-more, group-part, group-within}
+use Rattle.stars.proofs.Groups.{within-more, group-part, group-within}
 use Rattle.cycles.proofs.Linking.{linkNodes, linked, length-nodes}
 use Rattle.cycles.proofs.links.link_successors.Statement.{statement}
 use Rattle.cycles.proofs.links.link_successors.Tie as tie

@@ -11,8 +11,8 @@ use Rattle.rules.specs.Limits.{limits}
 use Rattle.rules.specs.Sane.{Sane, Live}
 use Rattle.rules.specs.State.{arrangementIn}
 use Rattle.stars.specs.Grouped.{Grouped}
-use Rattle.cycles.proofs.Linking.{groups-within}
-use Rattle.cycles.proofs.Stars.{spreads}
+use Rattle.stars.proofs.Groups.{groups-within}
+use Rattle.pieces.proofs.Stars.{spreads}
 use Rattle.cycles.proofs.Outcome.{next-permutes, labels-right, rings-right}
 use Rattle.rings.specs.Listing.{Listed}
 use Rattle.rings.proofs.Splitting.{splittable}
@@ -32,7 +32,7 @@ Stars s star = Grouped (s .args .graph .«node_count») (s .args .dir-edges-src 
 
 -- the start, from the linking
 abbrev start : tie.After-link-successors → tie.Start
-start w = w .before .before .before .before .before .before .before .before .before
+start w = w .before .before .before .before .before .before .before .before .before .before .before
 
 -- the successors
 abbrev next : tie.After-link-successors → List ℕ
@@ -83,7 +83,7 @@ slice-aggregate-link-successors c = search needs
 
 link-successors-requires : tie.Need-link-successors-requires
 link-successors-requires c κs =
-    let s = c .before .before .before .before .before .before .before .before in
+    let s = c .before .before .before .before .before .before .before .before .before .before in
     let p = s .pre .0 in
     let graph = s .args .graph in
     (groups-within (graph .«node_count») (graph .«edge_count») (s .args .dir-edges-src .now) (s .args .dir-edges-marked .now) (p .star) (s .args .offsets .now) (s .args .grouped .now) (p .groups) (p .sane), p .inMarks, omega (arith, p .fewEdges))
@@ -110,10 +110,10 @@ label-rings-requires c κs =
 
 count-census-requires : tie.Need-count-census-requires
 count-census-requires c κs =
-    let s = c .before .before .before .before .before .before .before .before .before .before .before .before .before .before in
+    let s = c .before .before .before .before .before .before .before .before .before .before .before .before .before .before .before .before in
     let p = s .pre .0 in
     let graph = s .args .graph in
-    (spreads (graph .«node_count») (graph .«edge_count») (s .args .dir-edges-src .now) (s .args .dir-edges-marked .now) (s .args .offsets .now) (s .args .grouped .now) (p .star) (p .groups) (p .sane) (p .inSource) (p .inMarks), p .fewNodes, p .fewEdges)
+    (spreads (graph .«node_count») (graph .«edge_count») (s .args .dir-edges-src .now) (s .args .dir-edges-marked .now) (s .args .offsets .now) (s .args .grouped .now) (p .star) (p .groups) (p .sane) (p .inSource) (p .inMarks), s .pre .1, p .fewNodes, p .fewEdges)
 
 slice-aggregate-split-rings : tie.Need-slice-aggregate-split-rings
 slice-aggregate-split-rings c = search needs
@@ -139,7 +139,7 @@ walk-rings-requires c κs =
     let v = c .before .before .before .before .before in
     let s = begin v in
     let p = s .pre .0 in
-    let q = s .pre .1 in
+    let q = s .pre .2 in
     let graph = s .args .graph in
     record {
       permutes = table-permutes (graph .«node_count») (graph .«edge_count») (s .args .dir-edges-src .now) (s .args .dir-edges-marked .now) (p .star) (further v) (p .sane) (split v (p .star) (p .groups) (p .sane));

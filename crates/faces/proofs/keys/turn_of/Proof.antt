@@ -1,10 +1,14 @@
--- `faces::keys::turn_of` meets its contract.
--- Assumes nothing.
+-- `faces::keys::turn_of` meets its contract. The two parts are of one length, so that what is found is where the least rotation starts.
 use Prim.Native.Nat.{ℕ, _+_, _-_}
 use native.Mathlib.Omega.{arith}
-use mathlib.Core.Path.{_≡_, ap, _∙_}
-use lib.ListN.{take, drop}
+use mathlib.Core.Path.{_≡_, sym, ap, _∙_}
+use mathlib.Core.List.{List}
+use lib.ListN.{length, take, drop}
+use borrow.Author.Tests.{eq-eqb}
+use Rattle.rotation.specs.declared.RotationStart.{RotationStart}
+use Rattle.rotation.specs.declared.RotationStart.the-variants.{At, LengthsDiffer}
 use Rattle.rotation.specs.Rotation.{keysOf, leastRotation}
+use Rattle.rotation.specs.Answers.{startAt, rotationStart}
 use Rattle.rotation.proofs.Least.{least-rotation}
 use Rattle.faces.specs.Listed.{partOf}
 use Rattle.faces.proofs.KeyLists.{keys-within, keys-part, length-part}
@@ -12,69 +16,99 @@ use borrow.Author.Needs.{needs}
 use Rattle.faces.proofs.keys.turn_of.Statement.{statement}
 use Rattle.faces.proofs.keys.turn_of.Tie as tie
 
+-- the place that was found
+abbrev place : RotationStart → ℕ
+place (At i) = i
+place LengthsDiffer = 0
+
+-- of two lists of one length it is where the least rotation starts
+place-is : (xs ys : List ℕ) → length xs ≡ length ys → place (rotationStart xs ys) ≡ leastRotation (keysOf xs ys)
+unfolding rotationStart
+place-is xs ys e = ap (λ b. place (startAt b (leastRotation (keysOf xs ys)))) (eq-eqb (length xs) (length ys) e)
+
 add-end : tie.Need-add-end
 add-end c = omega (arith, keys-within (c .before .before .args .xs .now) (c .before .before .args .ys .now))
 
-mul-rotation-index : tie.Need-mul-rotation-index
-mul-rotation-index c = omega (arith, keys-within (c .before .before .args .xs .now) (c .before .before .args .ys .now))
+mul-minimum-rotation-index : tie.Need-mul-minimum-rotation-index
+mul-minimum-rotation-index c = omega (arith, keys-within (c .before .before .args .xs .now) (c .before .before .args .ys .now))
 
-sub-rotation-index : tie.Need-sub-rotation-index
-sub-rotation-index c = search needs
+sub-minimum-rotation-index : tie.Need-sub-minimum-rotation-index
+sub-minimum-rotation-index c = search needs
 
-part-rotation-index-start : tie.Need-part-rotation-index-start
-part-rotation-index-start c = search needs
+part-minimum-rotation-index-start : tie.Need-part-minimum-rotation-index-start
+part-minimum-rotation-index-start c = search needs
 
-part-rotation-index-end : tie.Need-part-rotation-index-end
-part-rotation-index-end c = omega (arith, keys-within (c .before .before .args .xs .now) (c .before .before .args .ys .now))
+part-minimum-rotation-index-end : tie.Need-part-minimum-rotation-index-end
+part-minimum-rotation-index-end c = omega (arith, keys-within (c .before .before .args .xs .now) (c .before .before .args .ys .now))
 
-mul-rotation-index-2 : tie.Need-mul-rotation-index-2
-mul-rotation-index-2 c = omega (arith, keys-within (c .before .before .before .args .xs .now) (c .before .before .before .args .ys .now))
+mul-minimum-rotation-index-2 : tie.Need-mul-minimum-rotation-index-2
+mul-minimum-rotation-index-2 c = omega (arith, keys-within (c .before .before .before .args .xs .now) (c .before .before .before .args .ys .now))
 
-sub-rotation-index-2 : tie.Need-sub-rotation-index-2
-sub-rotation-index-2 c = search needs
+sub-minimum-rotation-index-2 : tie.Need-sub-minimum-rotation-index-2
+sub-minimum-rotation-index-2 c = search needs
 
-part-rotation-index-start-2 : tie.Need-part-rotation-index-start-2
-part-rotation-index-start-2 c = search needs
+part-minimum-rotation-index-start-2 : tie.Need-part-minimum-rotation-index-start-2
+part-minimum-rotation-index-start-2 c = search needs
 
-part-rotation-index-end-2 : tie.Need-part-rotation-index-end-2
-part-rotation-index-end-2 c = omega (arith, keys-within (c .before .before .before .args .xs .now) (c .before .before .before .args .ys .now))
+part-minimum-rotation-index-end-2 : tie.Need-part-minimum-rotation-index-end-2
+part-minimum-rotation-index-end-2 c = omega (arith, keys-within (c .before .before .before .args .xs .now) (c .before .before .before .args .ys .now))
 
-rotation-index-requires : tie.Need-rotation-index-requires
-rotation-index-requires c κs = search needs
+minimum-rotation-index-requires : tie.Need-minimum-rotation-index-requires
+minimum-rotation-index-requires c κs = search needs
 
 -- what is found, by the parts as the code takes them
-found : (c : tie.After-rotation-index) → let s = c .before .before .before .before .before in
-    c .rotation-index .result ≡ leastRotation (partOf (s .args .first) (s .args .size) (keysOf (s .args .xs .now) (s .args .ys .now)))
+found : (c : tie.After-minimum-rotation-index) → let s = c .before .before .before .before .before in
+    place (c .minimum-rotation-index .result) ≡ leastRotation (partOf (s .args .first) (s .args .size) (keysOf (s .args .xs .now) (s .args .ys .now)))
 found c =
-    let a = c .before .before .before .before .before .args in
+    let s = c .before .before .before .before .before in
+    let a = s .args in
+    let w = keys-within (a .xs .now) (a .ys .now) in
     let e : a .first + a .size - a .first ≡ a .size = omega arith in
-    c .rotation-index .ensures
-    ∙ ap (λ (n : ℕ). leastRotation (keysOf (take n (drop (a .first) (a .xs .now))) (take n (drop (a .first) (a .ys .now))))) e
+    let X : List ℕ = partOf (a .first) (a .size) (a .xs .now) in
+    let Y : List ℕ = partOf (a .first) (a .size) (a .ys .now) in
+    let same : length X ≡ length Y =
+    length-part (a .first) (a .size) (a .xs .now) (omega (arith, w, s .pre .2)) ∙ sym (length-part (a .first) (a .size) (a .ys .now) (omega (arith, w, s .pre .2))) in
+    ap place (c .minimum-rotation-index .ensures)
+    ∙ ap (λ (n : ℕ). place (rotationStart (take n (drop (a .first) (a .xs .now))) (take n (drop (a .first) (a .ys .now))))) e
+    ∙ place-is X Y same
     ∙ ap leastRotation (keys-part (a .first) (a .size) (a .xs .now) (a .ys .now))
+
+enum-known-at : tie.Need-enum-known-at
+enum-known-at c = search needs
 
 cast-result : tie.Need-cast-result
 cast-result c =
-    let s = c .before .before .before .before .before in
+    let d = c .before .before .before in
+    let s = d .before .before .before .before .before in
     let P = partOf (s .args .first) (s .args .size) (keysOf (s .args .xs .now) (s .args .ys .now)) in
     let n = length-part (s .args .first) (s .args .size) (keysOf (s .args .xs .now) (s .args .ys .now)) (s .pre .2) in
-    omega (arith, found c, n, least-rotation P (omega arith) .within)
+    omega (arith, ap place (c .before .at .given .1), found d, n, least-rotation P (omega arith) .within)
+
+enum-told : tie.Need-enum-told
+enum-told c = search needs
 
 returns : tie.Need-returns
-returns c = found c
+returns c = sym (ap place (c .before .at .given .1)) ∙ found (c .before .before .before)
+
+returns-2 : tie.Need-returns-2
+returns-2 c = sym (ap place (c .enum-told .given .1)) ∙ found (c .before .before)
 
 pub turn-of-spec : {M : Type 1} → statement M
 turn-of-spec =
     tie.close
     (tie.spec
     add-end
-    mul-rotation-index
-    sub-rotation-index
-    part-rotation-index-start
-    part-rotation-index-end
-    mul-rotation-index-2
-    sub-rotation-index-2
-    part-rotation-index-start-2
-    part-rotation-index-end-2
-    rotation-index-requires
+    mul-minimum-rotation-index
+    sub-minimum-rotation-index
+    part-minimum-rotation-index-start
+    part-minimum-rotation-index-end
+    mul-minimum-rotation-index-2
+    sub-minimum-rotation-index-2
+    part-minimum-rotation-index-start-2
+    part-minimum-rotation-index-end-2
+    minimum-rotation-index-requires
+    enum-known-at
     cast-result
-    returns)
+    enum-told
+    returns
+    returns-2)

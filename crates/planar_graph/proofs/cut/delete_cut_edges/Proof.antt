@@ -7,7 +7,7 @@ use lib.ListN.{length}
 use Rattle.rules.specs.Limits.{limits}
 use Rattle.rules.specs.State.{State}
 use Rattle.tables.specs.Tables.{stateOf}
-use Rattle.stars.proofs.Sound.{sound-groupable}
+use Rattle.stars.proofs.Sound.{sound-groupable, sound-sortable}
 use Rattle.geometry.specs.Reply.{success}
 use Rattle.rules.proofs.Soundness.{is-roomy, is-sound}
 use Rattle.planar_graph.specs.Clauses.{leftWith}
@@ -96,6 +96,7 @@ cut-grouped-requires c κs =
         inSource = omega (arith, ok .edges, room .source);
         inMarks = omega (arith, ok .edges, room .halfMark);
       },
+      sound-sortable limits (held k) (good d .0 .room) (good d .0 .sense) .located,
       long f,
     )
 
