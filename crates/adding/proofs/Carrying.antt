@@ -1,5 +1,5 @@
 -- An addition to a state that passed 6, 7 and 5 carries out what it was decided to come to.
-use Prim.Native.Nat.{ℕ, suc, _+_, _*_, _<_, _≤_}
+use Prim.Native.Nat.{ℕ, suc, _+_, _*_, _/_, _%_, _<_, _≤_}
 use native.Mathlib.Omega.{arith}
 use mathlib.Core.Path.{_≡_, refl, sym, ap, subst, _∙_}
 use mathlib.Core.Bool.{Bool, true, false, cond, _&&_, not}
@@ -11,6 +11,7 @@ use Rattle.geometry.specs.Reply.{refused, success}
 use Rattle.geometry.specs.Angle.{planar}
 use Rattle.geometry.specs.declared.Line3D.{Line3D}
 use Rattle.lists.specs.Lists.{upto, firstWhere}
+use Rattle.lists.proofs.Counts.{by-eq}
 use Rattle.lists.proofs.Members.{in-at}
 use Rattle.rotation.specs.Rotation.{keySame}
 use Rattle.rules.specs.Keys.{keyOf}
@@ -116,6 +117,16 @@ module _ (g : Line3D) (s : State) (ready : Ready limits s) where
       ∙ carry (planar 1048576 (g .start) && planar 1048576 (g .end)) (keySame (keyOf (g .start .x) (g .start .y)) (keyOf (g .end .x) (g .end .y)))
       (ltb h (2 * s .edges)) (leb (s .nodes + (one (e .«new_start») + one (e .«new_end»))) 1024) (ltb (s .edges) 1024) (record { 0 = edgeOf h }) e g s none
 
+  -- a half-edge joins two nodes
+  half-nodes : (h : ℕ) → h < 2 * s .edges → (getD (s .source) h 0 < s .nodes) × (getD (s .target) h 0 < s .nodes)
+  half-nodes h q =
+      let k = h / 2 in
+      let d : h ≡ 2 * k + h % 2 = omega arith in
+      let e = sense .ends k (omega arith) in
+      by-eq (h % 2) 0
+      (λ z. let x : h ≡ 2 * k = omega arith in (rw x (e .from), rw x (e .to)))
+      (λ z. let x : h ≡ 2 * k + 1 = omega arith in (rw (x, e .twinFrom) (e .to), rw (x, e .twinTo) (e .from)))
+
   -- the searches can be made
   pub searchable : Searchable (s .nodes) (s .edges) (s .nodeX) (s .nodeY) (s .source) (s .target) (s .star)
   searchable = record {
@@ -130,6 +141,7 @@ module _ (g : Line3D) (s : State) (ready : Ready limits s) where
         let h = in-at (take n (s .star)) i (omega (arith, length-take-le n (s .star) m)) in
         let b = star-table-only limits s sense (getD (take n (s .star)) i 0) h in
         (omega (arith, getD-take n (s .star) i 0 q, room .source, sense .edges), omega (arith, getD-take n (s .star) i 0 q, room .target, sense .edges));
+    within = λ h m. half-nodes h (star-table-only limits s sense h m);
   }
 
   -- an edge that is to be made can be

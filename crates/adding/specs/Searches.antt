@@ -5,7 +5,7 @@ use mathlib.Core.List.{List}
 use lib.Dec.{eqb}
 use lib.Ieee.{Float}
 use lib.ListN.{length, getD, take}
-use Rattle.lists.specs.Lists.{upto, firstWhere}
+use Rattle.lists.specs.Lists.{In, upto, firstWhere}
 use Rattle.geometry.specs.declared.Line3D.{Line3D}
 use Rattle.rotation.specs.Rotation.{Key, keySame}
 use Rattle.rules.specs.Keys.{keyOf}
@@ -32,7 +32,7 @@ endsIn g nodes xs ys =
       «new_end» = eqb w nodes;
     }
 
--- what the searches ask of the lists: room for the counts, and star entries that are half-edges of the tables
+-- what the searches ask of the lists: room for the counts, and star entries that are half-edges of the tables and join two of the nodes
 pub record Searchable (nodes edges : ℕ) (xs ys : List Float) (source target star : List ℕ) : Type 0 where
   pub fewNodes : nodes ≤ 1024
   pub fewEdges : edges ≤ 1024
@@ -40,3 +40,4 @@ pub record Searchable (nodes edges : ℕ) (xs ys : List Float) (source target st
   pub roomY : nodes ≤ length ys
   pub roomStar : 2 * edges ≤ length star
   pub known : (i : ℕ) → i < 2 * edges → (getD star i 0 < length source) × (getD star i 0 < length target)
+  pub within : (h : ℕ) → In h (take (2 * edges) star) → (getD source h 0 < nodes) × (getD target h 0 < nodes)

@@ -1,7 +1,7 @@
 // Adding a line: the search for its ends and for an edge between them, and the writing of what is
 // new. Carried over from `add_node` and `add_line` of planar_graph.rs.
 ghost use mathlib.Core.Path.{_≡_};
-ghost use mathlib.Core.Bool.{true, false, cond};
+ghost use mathlib.Core.Bool.{true, false, cond, _||_};
 ghost use Prim.Native.Nat.{_+_, _*_, _<_, _≤_};
 ghost use lib.ListN.{length};
 ghost use Rattle.rotation.specs.Rotation.{keySame};
@@ -122,6 +122,16 @@ fn find_space(graph: PlanarGraph, ends: Ends) -> Decision
     }
 }
 
+// Whether one of a line's ends has yet to be made. No edge leads to it then, so none is searched for.
+fn some_new(ends: Ends) -> bool
+    ensures { λ r. ⌜ r ≡ (ends .«new_start» || ends .«new_end») ⌝ }
+{
+    if ends.new_start {
+        return true;
+    }
+    ends.new_end
+}
+
 // Numbers 1 and 2, the search for an edge that joins the ends already, then numbers 3 and 4.
 fn decide(
     graph: PlanarGraph,
@@ -147,6 +157,9 @@ fn decide(
         return Decision::Refuse(Refusal::SameNode);
     }
     let ends = find_ends(graph, line, nodes_x, nodes_y);
+    if some_new(ends) {
+        return find_space(graph, ends);
+    }
     let half = find_half(
         graph,
         dir_edges_src,
