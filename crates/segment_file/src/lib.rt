@@ -67,7 +67,7 @@ fn le64(bytes: &[u8], at: usize) -> u64
 
 // The float with these bits. The pattern of a NaN becomes some NaN: its exponent is all ones and its
 // fraction is not 0, so without the sign it lies above the pattern of infinity.
-fn float_of(bits: u64) -> f64
+pub fn float_of(bits: u64) -> f64
     ensures { λ r. ⌜ r ≡ ofBits binary64 bits ⌝ }
 {
     if 0x7ff0_0000_0000_0000 < bits % 0x8000_0000_0000_0000 {
