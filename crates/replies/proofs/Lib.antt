@@ -1,0 +1,4 @@
+-- numbers written over the front of a list
+pub mod Writing
+-- what an answer leaves
+pub mod Replying

@@ -1,0 +1,18 @@
+-- `read_stage` meets its contract.
+use mathlib.Core.Path.{refl}
+use borrow.Author.Tests.{lt-ltb, le-ltb}
+use borrow.Author.Needs.{needs}
+use Rattle.replies.proofs.small.read_stage.Statement.{statement}
+use Rattle.replies.proofs.small.read_stage.Tie as tie
+
+cast-result : tie.Need-cast-result
+cast-result c = search needs
+
+returns : tie.Need-returns
+returns c = rw (lt-ltb _ _ (c .if1 .taken)) refl
+
+returns-2 : tie.Need-returns-2
+returns-2 c = rw (le-ltb _ _ (c .if1 .left)) refl
+
+pub read-stage-spec : {M : Type 1} → statement M
+read-stage-spec = tie.close (tie.spec cast-result returns returns-2)

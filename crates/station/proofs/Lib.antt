@@ -1,0 +1,4 @@
+-- from a public entry to the station's
+pub mod Handing
+-- room for an answer
+pub mod Asking
