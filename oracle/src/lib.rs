@@ -1,0 +1,20 @@
+//! The original Rust methods, run beside the library on the same calls.
+//!
+//! [`Oracle`] answers every call of the library: document 01's refusals come from [`rules`], all
+//! else from the original's own methods in [`original`]. Its state lies in the library's layout
+//! ([`state`]), so that replies, tables and lists can be compared entry by entry.
+//!
+//! Build it in release: the original checks more in debug builds, and document 01 compares release
+//! builds.
+
+pub mod calls;
+pub mod listing;
+pub mod oracle;
+pub mod original;
+pub mod rules;
+pub mod stand_ins;
+pub mod state;
+
+pub use oracle::Oracle;
+// The original's text names these two by the crate's root.
+pub use stand_ins::{PolygonizeError, Result};

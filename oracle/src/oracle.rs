@@ -1,0 +1,264 @@
+//! The oracle: it answers a call by document 01's refusals, and else by the original's methods.
+
+use crate::original::steps::{self, Ring};
+use crate::original::{Coord3D, DirectedEdge, Edge, Line3D, NodeKey, PlanarGraph};
+use crate::rules::{self, Named};
+use crate::stand_ins::{Coord, EdgeSources};
+use crate::state::{Call, Lent, Lists, Reply, Side, State, Tables};
+
+/// The original's graph, and the state in the library's layout.
+///
+/// The graph is built by the original's own methods. Only where the state was written from outside
+/// is it filled from the tables, at the next call that is not refused.
+pub struct Oracle {
+    graph: PlanarGraph,
+    state: State,
+    written: bool,
+    named: Vec<Named>,
+}
+
+impl Default for Oracle {
+    fn default() -> Self {
+        Oracle::over(State::default())
+    }
+}
+
+impl Oracle {
+    /// An oracle that starts from this state.
+    pub fn over(state: State) -> Self {
+        Oracle {
+            graph: PlanarGraph::new(),
+            state,
+            written: true,
+            named: Vec::new(),
+        }
+    }
+
+    /// The star of each node as the original holds it. It has no table of all of them.
+    pub fn stars(&self) -> &[Vec<usize>] {
+        &self.graph.nodes_outgoing
+    }
+
+    /// The rings of the last extraction with the face numbers that the original gave them. The
+    /// lists have document 01's, which differ only among rings of equal key and area.
+    pub fn named(&self) -> &[Named] {
+        &self.named
+    }
+
+    fn step(&mut self, call: &Call) -> Reply {
+        let lists = &mut self.state.lists;
+        match *call {
+            Call::Create => {
+                self.graph = PlanarGraph::new();
+                Reply::Created
+            }
+            Call::Add(line) => add(&mut self.graph, line),
+            Call::Sort => {
+                self.graph.sort_edges();
+                Reply::Done
+            }
+            Call::Prune => {
+                let dangles = steps::prune(&mut self.graph);
+                Reply::Dangles(put_edges(&dangles, lists))
+            }
+            Call::Cut => {
+                let (cuts, census) = steps::cut(&mut self.graph);
+                Reply::Cuts(put_edges(&cuts, lists), census)
+            }
+            Call::Rings => {
+                let (rings, census) = steps::rings(&mut self.graph);
+                let count = rings.len() as u16;
+                self.named = put_rings(rings, lists);
+                Reply::Rings(count, census)
+            }
+            Call::Reset => {
+                self.graph.reset_traversal_state();
+                Reply::Done
+            }
+        }
+    }
+}
+
+impl Side for Oracle {
+    fn state(&self) -> &State {
+        &self.state
+    }
+
+    fn state_mut(&mut self) -> &mut State {
+        self.written = true;
+        &mut self.state
+    }
+
+    fn call(&mut self, call: &Call, lent: &Lent) -> Reply {
+        if let Err(refusal) = rules::check(call, &self.state, lent) {
+            return Reply::Refused(refusal.number());
+        }
+        let written = std::mem::take(&mut self.written);
+        if written && !matches!(call, Call::Create) {
+            self.graph = filled(&self.state);
+        }
+        let old_edges = self.graph.edges.len();
+        let reply = self.step(call);
+        store(&self.graph, &mut self.state);
+        match call {
+            Call::Create | Call::Reset => self.state.stage = 0,
+            Call::Add(_) => put_new_stars(old_edges, &mut self.state),
+            Call::Sort => put_sorted_stars(&self.graph, &mut self.state),
+            Call::Prune | Call::Cut | Call::Rings => self.state.stage += 1,
+        }
+        reply
+    }
+}
+
+fn add(graph: &mut PlanarGraph, line: Line3D) -> Reply {
+    let edges = graph.edges.len();
+    let edge = graph.add_line(line);
+    Reply::Edge {
+        edge: edge as u16,
+        new: edge == edges,
+    }
+}
+
+fn put_edges(edges: &[usize], lists: &mut Lists) -> u16 {
+    for (entry, &edge) in lists.edges.iter_mut().zip(edges) {
+        *entry = edge as u16;
+    }
+    edges.len() as u16
+}
+
+/// Writes the rings; how the original names them.
+fn put_rings(rings: Vec<Ring>, lists: &mut Lists) -> Vec<Named> {
+    let mut place = 0;
+    let mut named = Vec::new();
+    for (number, ring) in rings.into_iter().enumerate() {
+        lists.ring_first[number] = place as u16;
+        lists.ring_length[number] = ring.half_edges.len() as u16;
+        lists.ring_side[number] = side(ring.area);
+        lists.ring_area[number] = ring.area;
+        for half_edge in ring.half_edges {
+            lists.half_edges[place] = half_edge as u16;
+            place += 1;
+        }
+        named.push(Named {
+            key: ring.key,
+            area: ring.area,
+            face: ring.face,
+        });
+    }
+    for (entry, face) in lists.ring_face.iter_mut().zip(rules::break_ties(&named)) {
+        *entry = face as u16;
+    }
+    named
+}
+
+/// 0 flat, 1 enclosed, 2 open.
+fn side(area: f64) -> u8 {
+    if area > 0.0 {
+        1
+    } else if area < 0.0 {
+        2
+    } else {
+        0
+    }
+}
+
+/// The original's graph as the tables have it.
+fn filled(state: &State) -> PlanarGraph {
+    let (nodes, tables) = (usize::from(state.nodes), &state.tables);
+    let halves = 2 * usize::from(state.edges);
+    let mut graph = PlanarGraph::new();
+    graph.nodes_x = tables.nodes_x[..nodes].to_vec();
+    graph.nodes_y = tables.nodes_y[..nodes].to_vec();
+    graph.nodes_z = tables.nodes_z[..nodes].to_vec();
+    graph.nodes_degree = tables.nodes_degree[..nodes]
+        .iter()
+        .map(|&n| n.into())
+        .collect();
+    graph.nodes_marked = tables.nodes_marked[..nodes].to_vec();
+    let wide = |star: Vec<u16>| star.into_iter().map(usize::from).collect();
+    graph.nodes_outgoing = state.stars().into_iter().map(wide).collect();
+    graph.directed_edges = (0..halves).map(|half| filled_half(half, tables)).collect();
+    graph.edges = (0..halves / 2)
+        .map(|edge| filled_edge(edge, tables))
+        .collect();
+    for node in 0..nodes {
+        let key = NodeKey::from(Coord {
+            x: graph.nodes_x[node],
+            y: graph.nodes_y[node],
+        });
+        // A search takes the lowest node.
+        graph.node_map.entry(key).or_insert(node);
+    }
+    graph
+}
+
+fn filled_half(half: usize, tables: &Tables) -> DirectedEdge {
+    DirectedEdge {
+        src: tables.dir_edges_src[half].into(),
+        dst: tables.dir_edges_dst[half].into(),
+        edge_idx: half / 2,
+        sym_idx: half ^ 1,
+        next_idx: None,
+        face_id: None,
+        is_visited: false,
+        is_marked: tables.dir_edges_marked[half],
+    }
+}
+
+fn filled_edge(edge: usize, tables: &Tables) -> Edge {
+    let line_id = tables.edges_line_id[edge];
+    let at = |place: usize| tables.edges_line[6 * edge + place];
+    Edge {
+        line: Line3D {
+            start: Coord3D::new(at(0), at(1), at(2)),
+            end: Coord3D::new(at(3), at(4), at(5)),
+            line_id,
+        },
+        sources: EdgeSources::from_line_id(line_id),
+        dir_edges: [2 * edge, 2 * edge + 1],
+        is_marked: false,
+        deleted: false,
+    }
+}
+
+/// Writes the graph into the tables, all but the stars. Entries past its own keep their contents.
+fn store(graph: &PlanarGraph, state: &mut State) {
+    let tables = &mut state.tables;
+    state.nodes = graph.nodes_x.len() as u16;
+    state.edges = graph.edges.len() as u16;
+    let nodes = graph.nodes_x.len();
+    tables.nodes_x[..nodes].copy_from_slice(&graph.nodes_x);
+    tables.nodes_y[..nodes].copy_from_slice(&graph.nodes_y);
+    tables.nodes_z[..nodes].copy_from_slice(&graph.nodes_z);
+    tables.nodes_marked[..nodes].copy_from_slice(&graph.nodes_marked);
+    for (entry, &degree) in tables.nodes_degree.iter_mut().zip(&graph.nodes_degree) {
+        *entry = degree as u16;
+    }
+    for (number, edge) in graph.edges.iter().enumerate() {
+        let (start, end) = (edge.line.start, edge.line.end);
+        let line = [start.x, start.y, start.z, end.x, end.y, end.z];
+        tables.edges_line[6 * number..6 * number + 6].copy_from_slice(&line);
+        tables.edges_line_id[number] = edge.line.line_id;
+    }
+    for (number, half) in graph.directed_edges.iter().enumerate() {
+        tables.dir_edges_src[number] = half.src as u16;
+        tables.dir_edges_dst[number] = half.dst as u16;
+        tables.dir_edges_marked[number] = half.is_marked;
+    }
+}
+
+/// The library's star table grows at its end.
+fn put_new_stars(old_edges: usize, state: &mut State) {
+    for half in 2 * old_edges..2 * usize::from(state.edges) {
+        state.tables.nodes_outgoing[half] = half as u16;
+    }
+}
+
+/// Sorted, it is the stars by node.
+fn put_sorted_stars(graph: &PlanarGraph, state: &mut State) {
+    let halves = graph.nodes_outgoing.iter().flatten();
+    for (entry, &half) in state.tables.nodes_outgoing.iter_mut().zip(halves) {
+        *entry = half as u16;
+    }
+    state.stage = 1;
+}

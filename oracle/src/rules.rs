@@ -1,0 +1,270 @@
+//! Document 01's own rules, which the original has not: refusals 1 to 11 in their order, the
+//! stages, room, the soundness list, and ties in face naming.
+
+use crate::original::{canonical_coordinate_bits, compare_angular, minimum_rotation_index};
+use crate::original::{Coord3D, Line3D};
+use crate::stand_ins::Coord;
+use crate::state::{Call, Lent, State, EDGE_LIMIT, LEAST_LENGTHS, NODE_LIMIT};
+use std::cmp::Ordering;
+
+/// How far from zero an x or a y may lie.
+const COORDINATE_BOUND: f64 = 1_048_576.0;
+
+/// The length of a record and what its first field says of it.
+const RECORD_BYTES: usize = 58;
+const RECORD_LENGTH: u32 = 54;
+const SEGMENT_KIND: u16 = 1;
+
+/// Why a call is refused, by document 01's numbers.
+#[derive(Clone, Copy, Debug, PartialEq, Eq)]
+pub enum Refusal {
+    NotWhole = 1,
+    SameNode = 2,
+    TooManyNodes = 3,
+    TooManyEdges = 4,
+    WrongStage = 5,
+    TableTooShort = 6,
+    Unsound = 7,
+    ListTooShort = 8,
+    RecordShort = 9,
+    RecordLength = 10,
+    RecordKind = 11,
+}
+
+impl Refusal {
+    pub fn number(self) -> u32 {
+        self as u32
+    }
+}
+
+type Checked = Result<(), Refusal>;
+
+fn demand(holds: bool, refusal: Refusal) -> Checked {
+    if holds {
+        Ok(())
+    } else {
+        Err(refusal)
+    }
+}
+
+/// The first refusal that is due, if any.
+pub fn check(call: &Call, state: &State, lent: &Lent) -> Checked {
+    demand(has_room(state, lent), Refusal::TableTooShort)?;
+    if matches!(call, Call::Create) {
+        return Ok(());
+    }
+    demand(is_sound(state), Refusal::Unsound)?;
+    if let Some(stage) = stage_before(call) {
+        demand(state.stage == stage, Refusal::WrongStage)?;
+    }
+    match call {
+        Call::Add(line) => check_line(line, state),
+        Call::Prune | Call::Cut => check_lists(state.edges, &lent.lists[..1]),
+        Call::Rings => check_lists(2 * state.edges, &lent.lists[1..]),
+        Call::Create | Call::Sort | Call::Reset => Ok(()),
+    }
+}
+
+/// The stage that a call needs.
+fn stage_before(call: &Call) -> Option<u16> {
+    match call {
+        Call::Create | Call::Reset => None,
+        Call::Add(_) | Call::Sort => Some(0),
+        Call::Prune => Some(1),
+        Call::Cut => Some(2),
+        Call::Rings => Some(3),
+    }
+}
+
+fn check_lists(least: u16, lengths: &[usize]) -> Checked {
+    let long = lengths.iter().all(|&length| length >= usize::from(least));
+    demand(long, Refusal::ListTooShort)
+}
+
+/// Numbers 1 and 2; an edge that is there already; numbers 3 and 4.
+fn check_line(line: &Line3D, state: &State) -> Checked {
+    let planar = is_planar(line.start) && is_planar(line.end);
+    demand(planar, Refusal::NotWhole)?;
+    demand(key(line.start) != key(line.end), Refusal::SameNode)?;
+    let ends = [find_node(line.start, state), find_node(line.end, state)];
+    if let [Some(start), Some(end)] = ends {
+        if joins(start, end, state) {
+            return Ok(());
+        }
+    }
+    let missing = ends.iter().filter(|end| end.is_none()).count();
+    let nodes = usize::from(state.nodes) + missing;
+    demand(nodes <= NODE_LIMIT, Refusal::TooManyNodes)?;
+    demand(usize::from(state.edges) < EDGE_LIMIT, Refusal::TooManyEdges)
+}
+
+fn is_planar(point: Coord3D) -> bool {
+    is_coordinate(point.x) && is_coordinate(point.y)
+}
+
+/// A whole number within the bound. -0.0 is one; NaN and the infinities are none.
+pub fn is_coordinate(value: f64) -> bool {
+    value.abs() <= COORDINATE_BOUND && value.trunc() == value
+}
+
+fn key(point: Coord3D) -> [u64; 2] {
+    [
+        canonical_coordinate_bits(point.x),
+        canonical_coordinate_bits(point.y),
+    ]
+}
+
+/// The lowest node with the point's key.
+fn find_node(point: Coord3D, state: &State) -> Option<usize> {
+    let tables = &state.tables;
+    (0..usize::from(state.nodes)).find(|&node| {
+        let stored = Coord3D::new(tables.nodes_x[node], tables.nodes_y[node], 0.0);
+        key(stored) == key(point)
+    })
+}
+
+/// Whether an edge joins two nodes, either way round.
+fn joins(start: usize, end: usize, state: &State) -> bool {
+    let tables = &state.tables;
+    (0..2 * usize::from(state.edges)).any(|half_edge| {
+        usize::from(tables.dir_edges_src[half_edge]) == start
+            && usize::from(tables.dir_edges_dst[half_edge]) == end
+    })
+}
+
+/// Number 6.
+fn has_room(state: &State, lent: &Lent) -> bool {
+    let lengths = state.tables.lengths();
+    (0..lengths.len()).all(|table| lent.table(table, lengths[table]) >= LEAST_LENGTHS[table])
+}
+
+/// Number 7: the soundness list.
+pub fn is_sound(state: &State) -> bool {
+    let (nodes, edges) = (usize::from(state.nodes), usize::from(state.edges));
+    nodes <= NODE_LIMIT
+        && edges <= EDGE_LIMIT
+        && state.stage <= 4
+        && (0..edges).all(|edge| sound_edge(edge, state))
+        && sound_stars(edges, state)
+        && (0..nodes).all(|node| sound_point(node, state))
+        && (state.stage > 1 || is_fresh(nodes, edges, state))
+}
+
+/// Its half-edges swap two different nodes below the node count and are marked alike.
+fn sound_edge(edge: usize, state: &State) -> bool {
+    let (half, twin, tables) = (2 * edge, 2 * edge + 1, &state.tables);
+    let (src, dst) = (tables.dir_edges_src[half], tables.dir_edges_dst[half]);
+    src < state.nodes
+        && dst < state.nodes
+        && src != dst
+        && tables.dir_edges_src[twin] == dst
+        && tables.dir_edges_dst[twin] == src
+        && tables.dir_edges_marked[half] == tables.dir_edges_marked[twin]
+}
+
+/// Each half-edge stands once among the used entries of the star table.
+fn sound_stars(edges: usize, state: &State) -> bool {
+    let mut seen = vec![false; 2 * edges];
+    state.tables.nodes_outgoing[..2 * edges]
+        .iter()
+        .all(|&half_edge| match seen.get_mut(usize::from(half_edge)) {
+            Some(seen) => !std::mem::replace(seen, true),
+            None => false,
+        })
+}
+
+fn sound_point(node: usize, state: &State) -> bool {
+    is_coordinate(state.tables.nodes_x[node]) && is_coordinate(state.tables.nodes_y[node])
+}
+
+/// Nothing is marked and degrees are star lengths.
+fn is_fresh(nodes: usize, edges: usize, state: &State) -> bool {
+    let tables = &state.tables;
+    let mut degrees = vec![0u16; nodes];
+    for &src in &tables.dir_edges_src[..2 * edges] {
+        degrees[usize::from(src)] += 1;
+    }
+    degrees == tables.nodes_degree[..nodes]
+        && !tables.nodes_marked[..nodes].contains(&true)
+        && !tables.dir_edges_marked[..2 * edges].contains(&true)
+}
+
+/// What stands at a place of a segment file: a segment with the place of the next record, the end,
+/// or one of numbers 9, 10 and 11.
+pub fn read_record(bytes: &[u8], at: usize) -> Result<Option<(Line3D, usize)>, Refusal> {
+    let rest = bytes.get(at..).unwrap_or(&[]);
+    if rest.is_empty() {
+        return Ok(None);
+    }
+    let record = rest.get(..RECORD_BYTES).ok_or(Refusal::RecordShort)?;
+    let number = |at: usize| u32::from_le_bytes(record[at..at + 4].try_into().unwrap());
+    let kind = u16::from_le_bytes(record[4..6].try_into().unwrap());
+    demand(number(0) == RECORD_LENGTH, Refusal::RecordLength)?;
+    demand(kind == SEGMENT_KIND, Refusal::RecordKind)?;
+    let float = |at: usize| f64::from_le_bytes(record[at..at + 8].try_into().unwrap());
+    let point = |at: usize| Coord3D::new(float(at), float(at + 8), float(at + 16));
+    let line = Line3D {
+        start: point(10),
+        end: point(34),
+        line_id: number(6),
+    };
+    Ok(Some((line, at + RECORD_BYTES)))
+}
+
+/// The angle comparison, which puts its three points to number 1.
+pub fn compare_points(
+    centre: Coord<f64>,
+    a: Coord<f64>,
+    b: Coord<f64>,
+) -> Result<Ordering, Refusal> {
+    let whole = |point: Coord<f64>| is_coordinate(point.x) && is_coordinate(point.y);
+    demand(whole(centre) && whole(a) && whole(b), Refusal::NotWhole)?;
+    Ok(compare_angular(centre, a, b))
+}
+
+/// Where the least rotation of a ring of keys starts.
+pub fn least_rotation(keys: &[[u64; 2]]) -> usize {
+    minimum_rotation_index(keys)
+}
+
+/// How the original names a ring: by its key and area, with this number. Rings come in the order of
+/// their starting half-edges.
+pub struct Named {
+    pub key: Vec<[u64; 2]>,
+    pub area: f64,
+    pub face: usize,
+}
+
+impl Named {
+    fn ties_with(&self, other: &Named) -> bool {
+        self.key == other.key && self.area == other.area
+    }
+}
+
+/// Rings by the original's number, those of equal key and area together.
+fn tied(rings: &[Named]) -> Vec<Vec<usize>> {
+    let mut order: Vec<usize> = (0..rings.len()).collect();
+    order.sort_by_key(|&ring| rings[ring].face);
+    let groups = order.chunk_by(|&a, &b| rings[a].ties_with(&rings[b]));
+    groups.map(<[usize]>::to_vec).collect()
+}
+
+/// Whether two rings have equal keys and areas. No graph made by additions has such rings.
+pub fn has_ties(rings: &[Named]) -> bool {
+    tied(rings).len() < rings.len()
+}
+
+/// Face numbers where rings of equal key and area go by their lower starting half-edge. The
+/// original sorts these unstably. Without such rings its own numbers come back.
+pub fn break_ties(rings: &[Named]) -> Vec<usize> {
+    let mut faces = vec![0; rings.len()];
+    let mut face = 0;
+    for mut group in tied(rings) {
+        group.sort_unstable();
+        for ring in group {
+            faces[ring] = face;
+            face += 1;
+        }
+    }
+    faces
+}

@@ -1,0 +1,107 @@
+//! The order of refusals, and every kind of damage in the soundness list.
+
+use oracle::{calls, Oracle};
+
+/// A triangle on three nodes.
+const TRIANGLE: &str = "create\nadd 0 0 0 4 0 0 1\nadd 4 0 0 0 3 0 2\nadd 0 3 0 0 0 0 3\n";
+
+/// The last line printed for the triangle and then these lines.
+fn last(lines: &str) -> String {
+    let printed = calls::run(&format!("{TRIANGLE}{lines}\n"), &mut Oracle::default());
+    let printed = printed.expect("a call list");
+    printed.lines().last().expect("a line").to_string()
+}
+
+#[test]
+fn order_of_an_addition() {
+    assert_eq!(
+        last("sort\nset 3 0 9\nshort 0\nadd x7ff8000000000000 0 0 0 0 0 1"),
+        "refused 6"
+    );
+    assert_eq!(
+        last("sort\nset 3 0 9\nadd x7ff8000000000000 0 0 0 0 0 1"),
+        "refused 7"
+    );
+    assert_eq!(last("sort\nadd x7ff8000000000000 0 0 0 0 0 1"), "refused 5");
+    assert_eq!(last("add x7ff8000000000000 0 0 0 0 0 1"), "refused 1");
+    assert_eq!(last("add 0 -0 0 -0 0 1 1"), "refused 2");
+    assert_eq!(last("add 4 0 0 0 0 0 9"), "edge 0 old");
+}
+
+#[test]
+fn order_of_a_step() {
+    assert_eq!(last("set 3 0 9\nlist 0\nshort 10\nprune"), "refused 6");
+    assert_eq!(last("set 3 0 9\nlist 0\nprune"), "refused 7");
+    assert_eq!(last("list 0\nprune"), "refused 5");
+    assert_eq!(last("sort\nlist 2\nprune"), "refused 8");
+    assert_eq!(
+        last("sort\nlist 3\nprune\ncut"),
+        "cuts 0 census 3 3 2 1 yes"
+    );
+    assert_eq!(last("sort\nlist 3\nprune\ncut\nlist 5\nrings"), "refused 8");
+    assert!(last("sort\nprune\ncut\nlist 6\nrings").starts_with("ring 1 "));
+}
+
+#[test]
+fn every_table_is_measured() {
+    for table in 0..11 {
+        for call in [
+            "create",
+            "add 0 0 0 1 0 0 1",
+            "sort",
+            "prune",
+            "cut",
+            "rings",
+            "reset",
+        ] {
+            assert_eq!(last(&format!("short {table}\n{call}")), "refused 6");
+        }
+    }
+}
+
+#[test]
+fn every_damage_is_found() {
+    for damage in [
+        "graph 1025 3 0",
+        "graph 3 1025 0",
+        "graph 3 65535 0",
+        "graph 3 3 5",
+        "graph 3 3 256",
+        "graph 2 3 0",
+        "set 7 0 1",
+        "set 7 0 3",
+        "set 8 0 2",
+        "set 8 5 65535",
+        "set 9 0 1",
+        "set 10 0 1",
+        "set 10 5 6",
+        "set 4 2 1",
+        "set 3 1 1",
+        "set 0 0 x3fe0000000000000",
+        "set 1 2 1048577",
+        "set 0 1 x7ff8000000000000",
+        "set 9 0 1\nset 9 1 1",
+    ] {
+        for call in [
+            "add 0 0 0 1 0 0 1",
+            "sort",
+            "prune",
+            "cut",
+            "rings",
+            "reset",
+        ] {
+            assert_eq!(last(&format!("{damage}\n{call}")), "refused 7", "{damage}");
+        }
+        assert_eq!(last(&format!("{damage}\ncreate")), "created");
+    }
+}
+
+#[test]
+fn marks_and_degrees_are_free_from_stage_two_on() {
+    let marked =
+        "graph 3 3 2\nset 9 0 1\nset 9 1 1\nset 4 1 1\nset 3 2 77\nset 2 0 x7ff0000000000001\n";
+    assert_eq!(
+        last(&format!("{marked}cut")),
+        "cuts 2 1 2 census 3 2 1 1 yes"
+    );
+}

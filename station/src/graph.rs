@@ -1,0 +1,362 @@
+//! A graph that owns its tables.
+
+use crate::entries::{self, RingLists, Tables, EDGE_LIMIT, LEAST_LENGTHS};
+use crate::{Refusal, Rings};
+
+/// The number of a node.
+#[derive(Clone, Copy, Debug, PartialEq, Eq, PartialOrd, Ord, Hash)]
+pub struct NodeId(pub u16);
+
+/// The number of an edge. Edge k owns half-edges 2 k, as given, and 2 k + 1, its twin.
+#[derive(Clone, Copy, Debug, PartialEq, Eq, PartialOrd, Ord, Hash)]
+pub struct EdgeId(pub u16);
+
+/// The number of a half-edge.
+#[derive(Clone, Copy, Debug, PartialEq, Eq, PartialOrd, Ord, Hash)]
+pub struct DirEdgeId(pub u16);
+
+/// The number of a face.
+#[derive(Clone, Copy, Debug, PartialEq, Eq, PartialOrd, Ord, Hash)]
+pub struct FaceId(pub u16);
+
+/// A point. x and y are whole numbers from -1,048,576 to 1,048,576; z may be anything.
+#[derive(Clone, Copy, Debug, PartialEq)]
+pub struct Coord3D {
+    pub x: f64,
+    pub y: f64,
+    pub z: f64,
+}
+
+impl Coord3D {
+    pub fn new(x: f64, y: f64, z: f64) -> Self {
+        Coord3D { x, y, z }
+    }
+}
+
+/// A segment of a trace.
+#[derive(Clone, Copy, Debug, PartialEq)]
+pub struct Line3D {
+    pub start: Coord3D,
+    pub end: Coord3D,
+    pub line_id: u32,
+}
+
+impl Line3D {
+    pub fn new(start: Coord3D, end: Coord3D, line_id: u32) -> Self {
+        Line3D {
+            start,
+            end,
+            line_id,
+        }
+    }
+
+    pub(crate) fn from_values([x1, y1, z1, x2, y2, z2]: [f64; 6], line_id: u32) -> Self {
+        Line3D::new(Coord3D::new(x1, y1, z1), Coord3D::new(x2, y2, z2), line_id)
+    }
+
+    fn values(&self) -> [f64; 6] {
+        let (a, b) = (self.start, self.end);
+        [a.x, a.y, a.z, b.x, b.y, b.z]
+    }
+}
+
+/// Where a graph is on its way from segments to rings.
+#[derive(Clone, Copy, Debug, PartialEq, Eq)]
+pub enum Stage {
+    Building,
+    Sorted,
+    Pruned,
+    Cut,
+    Ringed,
+}
+
+/// The edge of a segment that was added, and whether it is a new one.
+#[derive(Clone, Copy, Debug, PartialEq, Eq)]
+pub struct Added {
+    pub edge: EdgeId,
+    pub new: bool,
+}
+
+/// The nodes, edges, maximal rings and pieces that are left in a graph, and whether they meet
+/// Euler's formula: nodes - edges + cycles = 2 x pieces.
+#[derive(Clone, Copy, Debug, PartialEq, Eq)]
+pub struct Census {
+    pub nodes: u16,
+    pub edges: u16,
+    pub cycles: u16,
+    pub pieces: u16,
+    pub euler: bool,
+}
+
+impl Census {
+    fn of([_, nodes, edges, cycles, pieces, euler]: [u16; 6]) -> Self {
+        Census {
+            nodes,
+            edges,
+            cycles,
+            pieces,
+            euler: euler == 1,
+        }
+    }
+}
+
+/// The edges that were cut, and the counts before.
+#[derive(Clone, Debug, PartialEq, Eq)]
+pub struct Cuts {
+    pub edges: Vec<EdgeId>,
+    pub census: Census,
+}
+
+/// A graph: segments are added, then the four steps run in their order.
+///
+/// A refused call changes nothing.
+#[derive(Clone, Debug)]
+pub struct Graph {
+    /// Node count, edge count, stage.
+    state: [u16; 3],
+    tables: OwnedTables,
+    listed: Vec<u16>,
+    pub(crate) rings: OwnedRings,
+}
+
+#[derive(Clone, Debug)]
+struct OwnedTables {
+    nodes_x: Vec<f64>,
+    nodes_y: Vec<f64>,
+    nodes_z: Vec<f64>,
+    nodes_degree: Vec<u16>,
+    nodes_marked: Vec<bool>,
+    edges_line: Vec<f64>,
+    edges_line_id: Vec<u32>,
+    dir_edges_src: Vec<u16>,
+    dir_edges_dst: Vec<u16>,
+    dir_edges_marked: Vec<bool>,
+    nodes_outgoing: Vec<u16>,
+}
+
+#[derive(Clone, Debug)]
+pub(crate) struct OwnedRings {
+    pub half_edges: Vec<u16>,
+    pub first: Vec<u16>,
+    pub length: Vec<u16>,
+    pub face: Vec<u16>,
+    pub side: Vec<u8>,
+    pub area: Vec<f64>,
+}
+
+impl OwnedTables {
+    fn new() -> Self {
+        let [x, y, z, degree, marked, line, id, src, dst, half, star] = LEAST_LENGTHS;
+        OwnedTables {
+            nodes_x: vec![0.0; x],
+            nodes_y: vec![0.0; y],
+            nodes_z: vec![0.0; z],
+            nodes_degree: vec![0; degree],
+            nodes_marked: vec![false; marked],
+            edges_line: vec![0.0; line],
+            edges_line_id: vec![0; id],
+            dir_edges_src: vec![0; src],
+            dir_edges_dst: vec![0; dst],
+            dir_edges_marked: vec![false; half],
+            nodes_outgoing: vec![0; star],
+        }
+    }
+
+    fn lend(&mut self) -> Tables<'_> {
+        Tables {
+            nodes_x: &mut self.nodes_x,
+            nodes_y: &mut self.nodes_y,
+            nodes_z: &mut self.nodes_z,
+            nodes_degree: &mut self.nodes_degree,
+            nodes_marked: &mut self.nodes_marked,
+            edges_line: &mut self.edges_line,
+            edges_line_id: &mut self.edges_line_id,
+            dir_edges_src: &mut self.dir_edges_src,
+            dir_edges_dst: &mut self.dir_edges_dst,
+            dir_edges_marked: &mut self.dir_edges_marked,
+            nodes_outgoing: &mut self.nodes_outgoing,
+        }
+    }
+}
+
+impl OwnedRings {
+    fn new(length: usize) -> Self {
+        OwnedRings {
+            half_edges: vec![0; length],
+            first: vec![0; length],
+            length: vec![0; length],
+            face: vec![0; length],
+            side: vec![0; length],
+            area: vec![0.0; length],
+        }
+    }
+
+    fn lend(&mut self) -> RingLists<'_> {
+        RingLists {
+            half_edges: &mut self.half_edges,
+            first: &mut self.first,
+            length: &mut self.length,
+            face: &mut self.face,
+            side: &mut self.side,
+            area: &mut self.area,
+        }
+    }
+}
+
+impl Default for Graph {
+    fn default() -> Self {
+        Graph::new()
+    }
+}
+
+impl Graph {
+    /// An empty graph, with tables for 1,024 nodes and 1,024 edges.
+    pub fn new() -> Self {
+        let mut graph = Graph {
+            state: [0; 3],
+            tables: OwnedTables::new(),
+            listed: vec![0; EDGE_LIMIT],
+            rings: OwnedRings::new(2 * EDGE_LIMIT),
+        };
+        graph.clear();
+        graph
+    }
+
+    /// Makes the graph empty again.
+    pub fn clear(&mut self) {
+        entries::create(&mut self.state, &mut self.tables.lend())
+            .expect("the tables are as long as the limits need");
+    }
+
+    /// Adds a segment (stage `Building`). A segment between two nodes that are joined already
+    /// answers the old edge and changes nothing.
+    pub fn add_line(&mut self, line: &Line3D) -> Result<Added, Refusal> {
+        let mut reply = [0; 2];
+        entries::add_line(
+            &mut self.state,
+            &line.values(),
+            line.line_id,
+            &mut self.tables.lend(),
+            &mut reply,
+        )?;
+        Ok(Added {
+            edge: EdgeId(reply[0]),
+            new: reply[1] == 1,
+        })
+    }
+
+    /// Puts the half-edges around every node in angular order (`Building` to `Sorted`).
+    pub fn sort_edges(&mut self) -> Result<(), Refusal> {
+        entries::sort_edges(&mut self.state, &mut self.tables.lend())
+    }
+
+    /// Marks dangles and answers their edges in the order found (`Sorted` to `Pruned`).
+    pub fn prune_dangles(&mut self) -> Result<Vec<EdgeId>, Refusal> {
+        let mut reply = [0; 1];
+        entries::prune_dangles(
+            &mut self.state,
+            &mut self.tables.lend(),
+            &mut self.listed,
+            &mut reply,
+        )?;
+        Ok(self.listed_edges(reply[0]))
+    }
+
+    /// Marks edges with the same maximal ring on both sides (`Pruned` to `Cut`).
+    pub fn delete_cut_edges(&mut self) -> Result<Cuts, Refusal> {
+        let mut reply = [0; 6];
+        entries::delete_cut_edges(
+            &mut self.state,
+            &mut self.tables.lend(),
+            &mut self.listed,
+            &mut reply,
+        )?;
+        Ok(Cuts {
+            edges: self.listed_edges(reply[0]),
+            census: Census::of(reply),
+        })
+    }
+
+    /// Extracts the rings of what is unmarked (`Cut` to `Ringed`).
+    pub fn extract_rings(&mut self) -> Result<Rings<'_>, Refusal> {
+        let mut reply = [0; 6];
+        entries::extract_rings(
+            &mut self.state,
+            &mut self.tables.lend(),
+            &mut self.rings.lend(),
+            &mut reply,
+        )?;
+        Ok(Rings::new(self, reply[0].into(), Census::of(reply)))
+    }
+
+    /// Unmarks everything, in any stage, so that segments can be added again (to `Building`).
+    pub fn reset(&mut self) -> Result<(), Refusal> {
+        entries::reset(&mut self.state, &mut self.tables.lend())
+    }
+
+    pub fn node_count(&self) -> usize {
+        self.state[0].into()
+    }
+
+    pub fn edge_count(&self) -> usize {
+        self.state[1].into()
+    }
+
+    pub fn stage(&self) -> Stage {
+        match self.state[2] {
+            0 => Stage::Building,
+            1 => Stage::Sorted,
+            2 => Stage::Pruned,
+            3 => Stage::Cut,
+            _ => Stage::Ringed,
+        }
+    }
+
+    /// Where a node lies, if the graph has it: the first point that was given for it.
+    pub fn node(&self, node: NodeId) -> Option<Coord3D> {
+        let place = within(node.0, self.node_count())?;
+        let tables = &self.tables;
+        Some(Coord3D::new(
+            tables.nodes_x[place],
+            tables.nodes_y[place],
+            tables.nodes_z[place],
+        ))
+    }
+
+    /// The first segment that was given for an edge.
+    pub fn line(&self, edge: EdgeId) -> Option<Line3D> {
+        let place = within(edge.0, self.edge_count())?;
+        let values = &self.tables.edges_line[6 * place..6 * place + 6];
+        let values = values.try_into().expect("six values");
+        Some(Line3D::from_values(
+            values,
+            self.tables.edges_line_id[place],
+        ))
+    }
+
+    /// Where a half-edge starts and where it ends.
+    pub fn ends(&self, half_edge: DirEdgeId) -> Option<(NodeId, NodeId)> {
+        let place = within(half_edge.0, 2 * self.edge_count())?;
+        let tables = &self.tables;
+        Some((
+            NodeId(tables.dir_edges_src[place]),
+            NodeId(tables.dir_edges_dst[place]),
+        ))
+    }
+
+    /// Whether an edge is marked, as a dangle or as a cut edge.
+    pub fn is_marked(&self, edge: EdgeId) -> Option<bool> {
+        let place = within(edge.0, self.edge_count())?;
+        Some(self.tables.dir_edges_marked[2 * place])
+    }
+
+    fn listed_edges(&self, count: u16) -> Vec<EdgeId> {
+        let listed = &self.listed[..usize::from(count)];
+        listed.iter().map(|&edge| EdgeId(edge)).collect()
+    }
+}
+
+fn within(number: u16, count: usize) -> Option<usize> {
+    let place = usize::from(number);
+    (place < count).then_some(place)
+}

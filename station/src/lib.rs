@@ -1,0 +1,38 @@
+//! The tissue map graph for a station: segments of a trace in, compartments and their areas out.
+//!
+//! The work is done by a static library that is proved to do what its definitions say, on every
+//! input. This crate lends it tables, numbers and byte slices and hands out what comes back. Build
+//! the library first, by `rt staticlib station` in the root of the repository.
+//!
+//! ```
+//! use tukmiheb::{Coord3D, Graph, Line3D, Refusal};
+//!
+//! fn areas(trace: &[Line3D]) -> Result<Vec<f64>, Refusal> {
+//!     let mut graph = Graph::new();
+//!     for line in trace {
+//!         graph.add_line(line)?;
+//!     }
+//!     graph.sort_edges()?;
+//!     graph.prune_dangles()?;
+//!     graph.delete_cut_edges()?;
+//!     let rings = graph.extract_rings()?;
+//!     Ok(rings.enclosed().map(|ring| ring.area()).collect())
+//! }
+//!
+//! let corners = [(0.0, 0.0), (4.0, 0.0), (0.0, 3.0)].map(|(x, y)| Coord3D::new(x, y, 0.0));
+//! let trace = [0, 1, 2].map(|k| Line3D::new(corners[k], corners[(k + 1) % 3], k as u32));
+//! assert_eq!(areas(&trace), Ok(vec![6.0]));
+//! ```
+
+pub mod entries;
+mod ffi;
+mod graph;
+mod refusal;
+mod rings;
+mod segment_file;
+
+pub use graph::Stage;
+pub use graph::{Added, Census, Coord3D, Cuts, DirEdgeId, EdgeId, FaceId, Graph, Line3D, NodeId};
+pub use refusal::Refusal;
+pub use rings::{Ring, Rings, Side};
+pub use segment_file::{segments, Segments};
