@@ -11,7 +11,7 @@ use Rattle.rules.specs.State.{State}
 use Rattle.rules.specs.Adding.{Outcome}
 use Rattle.tables.specs.declared.PlanarGraph.{PlanarGraph}
 
--- a number that no stage has stays one
+-- the stage that a number says: 255, which is no stage, where the number is more than a byte
 abbrev pub stageIn : ℕ → ℕ
 stageIn n = cond (ltb n 256) n 255
 
