@@ -9,6 +9,7 @@ pub mod Groups
 -- the insertion sort of one star, and of the stars in a row
 pub mod Insertion
 pub mod Points
+pub mod Angular
 pub mod Parts
 pub mod Stars
 -- from the tests of numbers 6 and 7, and to the rules' sorting
