@@ -26,6 +26,8 @@ mod write;
 
 pub use search::find_half;
 pub use search::find_node;
+pub use search::goes;
+pub use search::has_key;
 pub use write::add_edge;
 pub use write::add_node;
 

@@ -21,7 +21,7 @@ pub fn wide(n: u16) -> usize
 }
 
 // Whether the node at an index has the bits of a point's x and y.
-fn has_key(nodes_x: &[f64], nodes_y: &[f64], n: usize, bits_x: u64, bits_y: u64) -> bool
+pub fn has_key(nodes_x: &[f64], nodes_y: &[f64], n: usize, bits_x: u64, bits_y: u64) -> bool
     requires { ⌜ (n < length (now «nodes_x»)) × (n < length (now «nodes_y»)) ⌝ }
     ensures { λ r. ⌜ r ≡ keySame (keyIn (now («nodes_x» .entry)) (now («nodes_y» .entry)) n) (record { x = «bits_x»; y = «bits_y» }) ⌝ }
 {
@@ -49,7 +49,7 @@ pub fn find_node(graph: PlanarGraph, nodes_x: &[f64], nodes_y: &[f64], point: Co
 }
 
 // Whether a half-edge goes from node u to node v.
-fn goes(dir_edges_src: &[u16], dir_edges_dst: &[u16], h: usize, u: u16, v: u16) -> bool
+pub fn goes(dir_edges_src: &[u16], dir_edges_dst: &[u16], h: usize, u: u16, v: u16) -> bool
     requires { ⌜ (h < length (now «dir_edges_src»)) × (h < length (now «dir_edges_dst»)) ⌝ }
     ensures { λ r. ⌜ r ≡ (eqb (getD (now («dir_edges_src» .entry)) h 0) u && eqb (getD (now («dir_edges_dst» .entry)) h 0) v) ⌝ }
 {

@@ -1,0 +1,3 @@
+-- Laws of chains: one more item, and the walk along a chain.
+pub mod Chaining
+pub mod Walking

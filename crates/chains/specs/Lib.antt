@@ -1,0 +1,2 @@
+-- Items chained by their codes.
+pub mod Chains

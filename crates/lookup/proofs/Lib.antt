@@ -1,0 +1,2 @@
+-- Laws of the chains of nodes and half-edges.
+pub mod Coding
