@@ -4,3 +4,4 @@ pub mod Apart
 pub mod Deciding
 pub mod Making
 pub mod Carrying
+pub mod Kept
