@@ -30,10 +30,11 @@ use Rattle.tables.specs.declared.Refusal.the-variants.{NotWhole, SameNode, TooM
 use Rattle.adding.specs.declared.Ends.{Ends}
 use Rattle.adding.specs.declared.Decision.{Decision}
 use Rattle.adding.specs.declared.Decision.the-variants.{Make, Keep, Refuse}
-use Rattle.adding.specs.Searches.{Searchable, findNodeIn, findHalfIn, endsIn}
-use Rattle.adding.specs.Decisions.{decisionIn}
+use Rattle.adding.specs.Searches.{Searchable, Found, findNodeIn, findHalfIn, endsBy}
+use Rattle.adding.specs.Decisions.{decisionBy, decisionIn}
 use Rattle.adding.specs.Written.{Makeable}
 use Rattle.adding.specs.Outcomes.{Ready}
+use Rattle.adding.proofs.Apart.{ends-half}
 
 -- what a decision answers and leaves
 abbrev pub carried : Decision → Line3D → State → Outcome rules.Added Nothing
@@ -104,19 +105,6 @@ module _ (g : Line3D) (s : State) (ready : Ready limits s) where
   abbrev pub decided : Decision
   decided = decisionIn limits g (s .nodes) (s .edges) (s .nodeX) (s .nodeY) (s .source) (s .target) (s .star)
 
-  -- the addition carries it out
-  pub add-carried : add limits g s ≡ carried decided g s
-  unfolding add decisionIn
-  add-carried =
-      let none : Nothing = record {} in
-      let e = endsIn g (s .nodes) (s .nodeX) (s .nodeY) in
-      let h = findHalfIn (s .edges) (s .source) (s .target) (s .star) (e .start .0) (e .end .0) in
-      demand-true (roomy limits s) 6 s none _ (ready .room)
-      ∙ demand-true (sound limits s) 7 s none _ (ready .sense)
-      ∙ demand-true (eqb (s .stage) 0) 5 s none _ (eq-eqb (s .stage) 0 (ready .stage))
-      ∙ carry (planar 1048576 (g .start) && planar 1048576 (g .end)) (keySame (keyOf (g .start .x) (g .start .y)) (keyOf (g .end .x) (g .end .y)))
-      (ltb h (2 * s .edges)) (leb (s .nodes + (one (e .«new_start») + one (e .«new_end»))) 1024) (ltb (s .edges) 1024) (record { 0 = edgeOf h }) e g s none
-
   -- a half-edge joins two nodes
   half-nodes : (h : ℕ) → h < 2 * s .edges → (getD (s .source) h 0 < s .nodes) × (getD (s .target) h 0 < s .nodes)
   half-nodes h q =
@@ -144,16 +132,39 @@ module _ (g : Line3D) (s : State) (ready : Ready limits s) where
     within = λ h m. half-nodes h (star-table-only limits s sense h m);
   }
 
-  -- an edge that is to be made can be
-  pub makeable : (e : Ends) → decided ≡ Make e → Makeable (s .nodes) (s .edges) e (s .degree)
-  unfolding decisionIn
-  makeable e q =
-      let d = endsIn g (s .nodes) (s .nodeX) (s .nodeY) in
-      let h = findHalfIn (s .edges) (s .source) (s .target) (s .star) (d .start .0) (d .end .0) in
-      let t = told (planar 1048576 (g .start) && planar 1048576 (g .end)) (keySame (keyOf (g .start .x) (g .start .y)) (keyOf (g .end .x) (g .end .y)))
-      (ltb h (2 * s .edges)) (leb (s .nodes + (one (d .«new_start») + one (d .«new_end»))) 1024) (ltb (s .edges) 1024) (record { 0 = edgeOf h }) d e q in
+  -- the addition carries it out
+  pub add-carried : add limits g s ≡ carried decided g s
+  unfolding add decisionBy
+  add-carried =
+      let none : Nothing = record {} in
       let u = findNodeIn (s .nodes) (s .nodeX) (s .nodeY) (keyOf (g .start .x) (g .start .y)) in
       let w = findNodeIn (s .nodes) (s .nodeX) (s .nodeY) (keyOf (g .end .x) (g .end .y)) in
+      let e = endsBy (s .nodes) u w in
+      let h = findHalfIn (s .edges) (s .source) (s .target) (s .star) (e .start .0) (e .end .0) in
+      demand-true (roomy limits s) 6 s none _ (ready .room)
+      ∙ demand-true (sound limits s) 7 s none _ (ready .sense)
+      ∙ demand-true (eqb (s .stage) 0) 5 s none _ (eq-eqb (s .stage) 0 (ready .stage))
+      ∙ carry (planar 1048576 (g .start) && planar 1048576 (g .end)) (keySame (keyOf (g .start .x) (g .start .y)) (keyOf (g .end .x) (g .end .y)))
+      (ltb h (2 * s .edges)) (leb (s .nodes + (one (e .«new_start») + one (e .«new_end»))) 1024) (ltb (s .edges) 1024) (record { 0 = edgeOf h }) e g s none
+      ∙ ap (λ z. carried (decisionBy limits g (s .nodes) (s .edges) u w z) g s) (ends-half (s .nodes) (s .edges) (s .source) (s .target) (s .star) (searchable .within) u w)
+
+  -- what the code decides from what it found
+  pub decided-found : (u w h : ℕ) → Found g (s .nodes) (s .edges) (s .nodeX) (s .nodeY) (s .source) (s .target) (s .star) u w h
+      → decisionBy limits g (s .nodes) (s .edges) u w h ≡ decided
+  decided-found u w h f =
+      ap (decisionBy limits g (s .nodes) (s .edges) u w) (f .half)
+      ∙ (λ i. decisionBy limits g (s .nodes) (s .edges) (f .start i) (f .end i) (findHalfIn (s .edges) (s .source) (s .target) (s .star) (f .start i) (f .end i)))
+
+  -- an edge that is to be made can be
+  pub makeable : (e : Ends) → decided ≡ Make e → Makeable (s .nodes) (s .edges) e (s .degree)
+  unfolding decisionBy
+  makeable e q =
+      let u = findNodeIn (s .nodes) (s .nodeX) (s .nodeY) (keyOf (g .start .x) (g .start .y)) in
+      let w = findNodeIn (s .nodes) (s .nodeX) (s .nodeY) (keyOf (g .end .x) (g .end .y)) in
+      let d = endsBy (s .nodes) u w in
+      let h = findHalfIn (s .edges) (s .source) (s .target) (s .star) u w in
+      let t = told (planar 1048576 (g .start) && planar 1048576 (g .end)) (keySame (keyOf (g .start .x) (g .start .y)) (keyOf (g .end .x) (g .end .y)))
+      (ltb h (2 * s .edges)) (leb (s .nodes + (one (d .«new_start») + one (d .«new_end»))) 1024) (ltb (s .edges) 1024) (record { 0 = edgeOf h }) d e q in
       subst (λ x. Makeable (s .nodes) (s .edges) x (s .degree)) (t .0) (record {
         space = leb-true _ _ (t .1);
         few = ltb-true _ _ (t .2);

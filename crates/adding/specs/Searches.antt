@@ -1,5 +1,6 @@
 -- The searches of an addition, over the lists that they read.
 use Prim.Native.Nat.{ℕ, suc, _*_, _<_, _≤_}
+use mathlib.Core.Path.{_≡_}
 use mathlib.Core.Bool.{cond, _&&_}
 use mathlib.Core.List.{List}
 use lib.Dec.{eqb}
@@ -20,17 +21,25 @@ findNodeIn nodes xs ys k = firstWhere (λ n. keySame (keyIn xs ys n) k) nodes (u
 abbrev pub findHalfIn : ℕ → List ℕ → List ℕ → List ℕ → ℕ → ℕ → ℕ
 findHalfIn edges source target star u v = firstWhere (λ h. eqb (getD target h 0) v) (2 * edges) (starIn source (take (2 * edges) star) u)
 
--- the nodes of a line's ends: found, or the next ones, the start's first
+-- the nodes of a line's ends, from the nodes u and w found for them: these, or the next ones, the start's first
+abbrev pub endsBy : ℕ → ℕ → ℕ → Ends
+endsBy nodes u w = record {
+  start = record { 0 = u };
+  end = record { 0 = cond (eqb u nodes && eqb w nodes) (suc nodes) w };
+  «new_start» = eqb u nodes;
+  «new_end» = eqb w nodes;
+}
+
+-- the same, with the nodes searched for
 abbrev pub endsIn : Line3D → ℕ → List Float → List Float → Ends
 endsIn g nodes xs ys =
-    let u = findNodeIn nodes xs ys (keyOf (g .start .x) (g .start .y)) in
-    let w = findNodeIn nodes xs ys (keyOf (g .end .x) (g .end .y)) in
-    record {
-      start = record { 0 = u };
-      end = record { 0 = cond (eqb u nodes && eqb w nodes) (suc nodes) w };
-      «new_start» = eqb u nodes;
-      «new_end» = eqb w nodes;
-    }
+    endsBy nodes (findNodeIn nodes xs ys (keyOf (g .start .x) (g .start .y))) (findNodeIn nodes xs ys (keyOf (g .end .x) (g .end .y)))
+
+-- u, w and h are what the searches find for a line: the nodes of its ends, and the half-edge between them
+pub record Found (g : Line3D) (nodes edges : ℕ) (xs ys : List Float) (source target star : List ℕ) (u w h : ℕ) : Type 0 where
+  pub start : u ≡ findNodeIn nodes xs ys (keyOf (g .start .x) (g .start .y))
+  pub end : w ≡ findNodeIn nodes xs ys (keyOf (g .end .x) (g .end .y))
+  pub half : h ≡ findHalfIn edges source target star u w
 
 -- what the searches ask of the lists: room for the counts, and star entries that are half-edges of the tables and join two of the nodes
 pub record Searchable (nodes edges : ℕ) (xs ys : List Float) (source target star : List ℕ) : Type 0 where

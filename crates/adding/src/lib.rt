@@ -1,21 +1,21 @@
 // Adding a line: the search for its ends and for an edge between them, and the writing of what is
 // new. Carried over from `add_node` and `add_line` of planar_graph.rs.
 ghost use mathlib.Core.Path.{_≡_};
-ghost use mathlib.Core.Bool.{true, false, cond, _||_};
+ghost use mathlib.Core.Bool.{true, false, cond};
 ghost use Prim.Native.Nat.{_+_, _*_, _<_, _≤_};
-ghost use lib.ListN.{length};
 ghost use Rattle.rotation.specs.Rotation.{keySame};
 ghost use Rattle.rules.specs.Keys.{keyOf};
 ghost use Rattle.rules.specs.Limits.{limits};
 ghost use Rattle.rules.specs.State.{roomy};
 ghost use Rattle.rules.specs.Adding.{withNode, withEdge, add};
 ghost use Rattle.tables.specs.Tables.{stateOf};
-ghost use Rattle.adding.specs.Searches.{Searchable, endsIn};
-ghost use Rattle.adding.specs.Decisions.{roomDecision, decisionIn};
+ghost use Rattle.adding.specs.Searches.{Found, endsBy};
+ghost use Rattle.adding.specs.Decisions.{roomDecision, decisionBy};
 ghost use Rattle.adding.specs.Written.{endsEntered, grownBy, NodeRoom, Makeable};
 ghost use Rattle.adding.specs.Outcomes.{Ready, outcomeOf};
 use geometry::Coord3D;
 use geometry::Line3D;
+use tables::DirEdgeId;
 use tables::EdgeId;
 use tables::NodeId;
 use tables::PlanarGraph;
@@ -24,6 +24,7 @@ use tables::Refusal;
 mod search;
 mod write;
 
+pub use search::find_edge;
 pub use search::find_half;
 pub use search::find_node;
 pub use search::goes;
@@ -80,14 +81,13 @@ fn new_nodes(ends: Ends) -> u16
     }
 }
 
-// The nodes of a line's ends. Where both are new, the end's comes after the start's.
-fn find_ends(graph: PlanarGraph, line: Line3D, nodes_x: &[f64], nodes_y: &[f64]) -> Ends
-    requires { ⌜ (graph .«node_count» ≤ 1024) × (graph .«node_count» ≤ length (now «nodes_x»)) × (graph .«node_count» ≤ length (now «nodes_y»)) ⌝ }
-    ensures { λ r. ⌜ r ≡ endsIn line (graph .«node_count») (now («nodes_x» .entry)) (now («nodes_y» .entry)) ⌝ }
+// The nodes of a line's ends, from what was found for them. Where both are new, the end's comes after
+// the start's.
+fn ends_of(graph: PlanarGraph, start: NodeId, end: NodeId) -> Ends
+    requires { ⌜ graph .«node_count» ≤ 1024 ⌝ }
+    ensures { λ r. ⌜ r ≡ endsBy (graph .«node_count») (start .0) (end .0) ⌝ }
 {
     let count = graph.node_count;
-    let start = find_node(graph, nodes_x, nodes_y, line.start);
-    let end = find_node(graph, nodes_x, nodes_y, line.end);
     let new_start = start.0 == count;
     let new_end = end.0 == count;
     if new_start && new_end {
@@ -124,56 +124,27 @@ fn find_space(graph: PlanarGraph, ends: Ends) -> Decision
     }
 }
 
-// Whether one of a line's ends has yet to be made. No edge leads to it then, so none is searched for.
-fn some_new(ends: Ends) -> bool
-    ensures { λ r. ⌜ r ≡ (ends .«new_start» || ends .«new_end») ⌝ }
+// Numbers 1 and 2, an edge that joins the ends already, then numbers 3 and 4, from what the searches
+// found: the nodes of the ends, and the half-edge between them.
+fn decide(graph: PlanarGraph, line: Line3D, start: NodeId, end: NodeId, half: DirEdgeId) -> Decision
+    requires { ⌜ (graph .«node_count» ≤ 1024) × (graph .«edge_count» ≤ 1024) ⌝ }
+    ensures { λ r. ⌜ r ≡ decisionBy limits line (graph .«node_count») (graph .«edge_count») (start .0) (end .0) (half .0) ⌝ }
 {
-    if ends.new_start {
-        return true;
-    }
-    ends.new_end
-}
-
-// Numbers 1 and 2, the search for an edge that joins the ends already, then numbers 3 and 4.
-fn decide(
-    graph: PlanarGraph,
-    line: Line3D,
-    nodes_x: &[f64],
-    nodes_y: &[f64],
-    dir_edges_src: &[u16],
-    dir_edges_dst: &[u16],
-    nodes_outgoing: &[u16],
-) -> Decision
-    requires { ⌜ Searchable (graph .«node_count») (graph .«edge_count») (now «nodes_x») (now «nodes_y») (now «dir_edges_src») (now «dir_edges_dst») (now «nodes_outgoing») ⌝ }
-    ensures { λ r. ⌜ r ≡ decisionIn limits line (graph .«node_count») (graph .«edge_count») (now («nodes_x» .entry)) (now («nodes_y» .entry)) (now («dir_edges_src» .entry)) (now («dir_edges_dst» .entry)) (now («nodes_outgoing» .entry)) ⌝ }
-{
-    let start = line.start;
-    let end = line.end;
-    if !geometry::is_planar(start) {
+    let from = line.start;
+    let to = line.end;
+    if !geometry::is_planar(from) {
         return Decision::Refuse(Refusal::NotWhole);
     }
-    if !geometry::is_planar(end) {
+    if !geometry::is_planar(to) {
         return Decision::Refuse(Refusal::NotWhole);
     }
-    if same_key(start, end) {
+    if same_key(from, to) {
         return Decision::Refuse(Refusal::SameNode);
     }
-    let ends = find_ends(graph, line, nodes_x, nodes_y);
-    if some_new(ends) {
-        return find_space(graph, ends);
-    }
-    let half = find_half(
-        graph,
-        dir_edges_src,
-        dir_edges_dst,
-        nodes_outgoing,
-        ends.start,
-        ends.end,
-    );
     if half.0 < 2 * graph.edge_count {
         return Decision::Keep(EdgeId(half.0 / 2));
     }
-    find_space(graph, ends)
+    find_space(graph, ends_of(graph, start, end))
 }
 
 // The counts with what is new.
@@ -281,11 +252,14 @@ fn make(
     grown(graph, ends)
 }
 
-// Adds a line to a graph that is known to be roomy, sound and in stage 0: numbers 1 and 2, the
-// search for an edge between the ends, numbers 3 and 4, then the new nodes and the new edge.
-pub fn add_core(
+// An addition once the searches are made, to a graph that is known to be roomy, sound and in stage 0:
+// what it comes to, then the new nodes and the new edge.
+pub fn add_found(
     graph: PlanarGraph,
     line: Line3D,
+    start: NodeId,
+    end: NodeId,
+    half: DirEdgeId,
     nodes_x: &mut [f64],
     nodes_y: &mut [f64],
     nodes_z: &mut [f64],
@@ -299,18 +273,11 @@ pub fn add_core(
     nodes_outgoing: &mut [u16],
 ) -> Added
     requires { ⌜ Ready limits (stateOf graph (now «nodes_x») (now «nodes_y») (now «nodes_z») (now «nodes_degree») (now «nodes_marked») (now «edges_line») (now «edges_line_id») (now «dir_edges_src») (now «dir_edges_dst») (now «dir_edges_marked») (now «nodes_outgoing»)) ⌝ }
+    requires { ⌜ Found line (graph .«node_count») (graph .«edge_count») (now «nodes_x») (now «nodes_y») (now «dir_edges_src») (now «dir_edges_dst») (now «nodes_outgoing») (start .0) (end .0) (half .0) ⌝ }
     ensures { λ r. ⌜ outcomeOf r (now («nodes_x» .exit)) (now («nodes_y» .exit)) (now («nodes_z» .exit)) (now («nodes_degree» .exit)) (now («nodes_marked» .exit)) (now («edges_line» .exit)) (now («edges_line_id» .exit)) (now («dir_edges_src» .exit)) (now («dir_edges_dst» .exit)) (now («dir_edges_marked» .exit)) (now («nodes_outgoing» .exit))
         ≡ add limits line (stateOf graph (now («nodes_x» .entry)) (now («nodes_y» .entry)) (now («nodes_z» .entry)) (now («nodes_degree» .entry)) (now («nodes_marked» .entry)) (now («edges_line» .entry)) (now («edges_line_id» .entry)) (now («dir_edges_src» .entry)) (now («dir_edges_dst» .entry)) (now («dir_edges_marked» .entry)) (now («nodes_outgoing» .entry))) ⌝ }
 {
-    match decide(
-        graph,
-        line,
-        nodes_x,
-        nodes_y,
-        dir_edges_src,
-        dir_edges_dst,
-        nodes_outgoing,
-    ) {
+    match decide(graph, line, start, end, half) {
         Decision::Refuse(why) => Added {
             graph,
             reply: AddReply::Refused(why),
@@ -343,4 +310,55 @@ pub fn add_core(
             }
         }
     }
+}
+
+// Adds a line to a graph that is known to be roomy, sound and in stage 0: the search for the nodes of
+// its ends and for an edge between them, then what follows from these.
+pub fn add_core(
+    graph: PlanarGraph,
+    line: Line3D,
+    nodes_x: &mut [f64],
+    nodes_y: &mut [f64],
+    nodes_z: &mut [f64],
+    nodes_degree: &mut [u16],
+    nodes_marked: &mut [bool],
+    edges_line: &mut [f64],
+    edges_line_id: &mut [u32],
+    dir_edges_src: &mut [u16],
+    dir_edges_dst: &mut [u16],
+    dir_edges_marked: &mut [bool],
+    nodes_outgoing: &mut [u16],
+) -> Added
+    requires { ⌜ Ready limits (stateOf graph (now «nodes_x») (now «nodes_y») (now «nodes_z») (now «nodes_degree») (now «nodes_marked») (now «edges_line») (now «edges_line_id») (now «dir_edges_src») (now «dir_edges_dst») (now «dir_edges_marked») (now «nodes_outgoing»)) ⌝ }
+    ensures { λ r. ⌜ outcomeOf r (now («nodes_x» .exit)) (now («nodes_y» .exit)) (now («nodes_z» .exit)) (now («nodes_degree» .exit)) (now («nodes_marked» .exit)) (now («edges_line» .exit)) (now («edges_line_id» .exit)) (now («dir_edges_src» .exit)) (now («dir_edges_dst» .exit)) (now («dir_edges_marked» .exit)) (now («nodes_outgoing» .exit))
+        ≡ add limits line (stateOf graph (now («nodes_x» .entry)) (now («nodes_y» .entry)) (now («nodes_z» .entry)) (now («nodes_degree» .entry)) (now («nodes_marked» .entry)) (now («edges_line» .entry)) (now («edges_line_id» .entry)) (now («dir_edges_src» .entry)) (now («dir_edges_dst» .entry)) (now («dir_edges_marked» .entry)) (now («nodes_outgoing» .entry))) ⌝ }
+{
+    let start = find_node(graph, nodes_x, nodes_y, line.start);
+    let end = find_node(graph, nodes_x, nodes_y, line.end);
+    let half = find_edge(
+        graph,
+        dir_edges_src,
+        dir_edges_dst,
+        nodes_outgoing,
+        start,
+        end,
+    );
+    add_found(
+        graph,
+        line,
+        start,
+        end,
+        half,
+        nodes_x,
+        nodes_y,
+        nodes_z,
+        nodes_degree,
+        nodes_marked,
+        edges_line,
+        edges_line_id,
+        dir_edges_src,
+        dir_edges_dst,
+        dir_edges_marked,
+        nodes_outgoing,
+    )
 }

@@ -3,7 +3,8 @@ ghost use mathlib.Core.Path.{_≡_};
 ghost use mathlib.Core.Bool.{_&&_};
 ghost use Prim.Native.Nat.{ℕ, _+_, _*_, _<_, _≤_};
 ghost use lib.Dec.{eqb};
-ghost use lib.ListN.{length, getD};
+ghost use lib.ListN.{length, getD, take};
+ghost use Rattle.lists.specs.Lists.{In};
 ghost use Rattle.rotation.specs.Rotation.{keySame};
 ghost use Rattle.rules.specs.Keys.{keyOf};
 ghost use Rattle.rules.specs.State.{keyIn};
@@ -82,4 +83,35 @@ pub fn find_half(
         i += 1;
     }
     DirEdgeId(count)
+}
+
+// The same, where either may be the node count: no edge leads to a node that has yet to be made, so
+// none is searched for then.
+pub fn find_edge(
+    graph: PlanarGraph,
+    dir_edges_src: &[u16],
+    dir_edges_dst: &[u16],
+    nodes_outgoing: &[u16],
+    start: NodeId,
+    end: NodeId,
+) -> DirEdgeId
+    requires { ⌜ (graph .«edge_count» ≤ 1024) × (2 * graph .«edge_count» ≤ length (now «nodes_outgoing»)) ⌝ }
+    requires { ⌜ ((i : ℕ) → i < 2 * graph .«edge_count» → (getD (now «nodes_outgoing») i 0 < length (now «dir_edges_src»)) × (getD (now «nodes_outgoing») i 0 < length (now «dir_edges_dst»))) ⌝ }
+    requires { ⌜ ((h : ℕ) → In h (take (2 * graph .«edge_count») (now «nodes_outgoing»)) → (getD (now «dir_edges_src») h 0 < graph .«node_count») × (getD (now «dir_edges_dst») h 0 < graph .«node_count»)) ⌝ }
+    ensures { λ r. ⌜ r .0 ≡ findHalfIn (graph .«edge_count») (now («dir_edges_src» .entry)) (now («dir_edges_dst» .entry)) (now («nodes_outgoing» .entry)) (start .0) (end .0) ⌝ }
+{
+    if start.0 == graph.node_count {
+        return DirEdgeId(2 * graph.edge_count);
+    }
+    if end.0 == graph.node_count {
+        return DirEdgeId(2 * graph.edge_count);
+    }
+    find_half(
+        graph,
+        dir_edges_src,
+        dir_edges_dst,
+        nodes_outgoing,
+        start,
+        end,
+    )
 }
