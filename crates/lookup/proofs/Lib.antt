@@ -1,2 +1,3 @@
 -- Laws of the chains of nodes and half-edges.
 pub mod Coding
+pub mod Growing
