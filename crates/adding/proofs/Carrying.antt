@@ -92,7 +92,7 @@ old-end true true n w e = let z : _≡_ {A = ℕ} 0 1 = cc in absurd (omega arit
 old-end true false n w e = refl
 old-end false b n w e = refl
 
-module _ (g : Line3D) (s : State) (ready : Ready limits s) where
+module _ (s : State) (ready : Ready limits s) where
   -- the tables are long enough
   room : Roomy limits s
   room = is-roomy limits s (ready .room)
@@ -100,10 +100,6 @@ module _ (g : Line3D) (s : State) (ready : Ready limits s) where
   -- and sound
   sense : Sound limits s
   sense = is-sound limits s (ready .sense)
-
-  -- the decision
-  abbrev pub decided : Decision
-  decided = decisionIn limits g (s .nodes) (s .edges) (s .nodeX) (s .nodeY) (s .source) (s .target) (s .star)
 
   -- a half-edge joins two nodes
   half-nodes : (h : ℕ) → h < 2 * s .edges → (getD (s .source) h 0 < s .nodes) × (getD (s .target) h 0 < s .nodes)
@@ -132,6 +128,11 @@ module _ (g : Line3D) (s : State) (ready : Ready limits s) where
     within = λ h m. half-nodes h (star-table-only limits s sense h m);
   }
 
+module _ (g : Line3D) (s : State) (ready : Ready limits s) where
+  -- the decision
+  abbrev pub decided : Decision
+  decided = decisionIn limits g (s .nodes) (s .edges) (s .nodeX) (s .nodeY) (s .source) (s .target) (s .star)
+
   -- the addition carries it out
   pub add-carried : add limits g s ≡ carried decided g s
   unfolding add decisionBy
@@ -146,7 +147,7 @@ module _ (g : Line3D) (s : State) (ready : Ready limits s) where
       ∙ demand-true (eqb (s .stage) 0) 5 s none _ (eq-eqb (s .stage) 0 (ready .stage))
       ∙ carry (planar 1048576 (g .start) && planar 1048576 (g .end)) (keySame (keyOf (g .start .x) (g .start .y)) (keyOf (g .end .x) (g .end .y)))
       (ltb h (2 * s .edges)) (leb (s .nodes + (one (e .«new_start») + one (e .«new_end»))) 1024) (ltb (s .edges) 1024) (record { 0 = edgeOf h }) e g s none
-      ∙ ap (λ z. carried (decisionBy limits g (s .nodes) (s .edges) u w z) g s) (ends-half (s .nodes) (s .edges) (s .source) (s .target) (s .star) (searchable .within) u w)
+      ∙ ap (λ z. carried (decisionBy limits g (s .nodes) (s .edges) u w z) g s) (ends-half (s .nodes) (s .edges) (s .source) (s .target) (s .star) (searchable s ready .within) u w)
 
   -- what the code decides from what it found
   pub decided-found : (u w h : ℕ) → Found g (s .nodes) (s .edges) (s .nodeX) (s .nodeY) (s .source) (s .target) (s .star) u w h
@@ -175,7 +176,7 @@ module _ (g : Line3D) (s : State) (ready : Ready limits s) where
             let b = found-below (λ n. keySame (keyIn (s .nodeX) (s .nodeY) n) (keyOf (g .end .x) (g .end .y))) (s .nodes) a in
             let z = old-end (eqb u (s .nodes)) (eqb w (s .nodes)) (s .nodes) w a in
             omega (arith, b, z);
-        low = λ n l. omega (arith, sense .new (omega (arith, ready .stage)) .degrees n l, star-length s n, sense .edges);
+        low = λ n l. omega (arith, sense s ready .new (omega (arith, ready .stage)) .degrees n l, star-length s n, sense s ready .edges);
       })
 
 -- what an addition leaves can be added to again

@@ -1,17 +1,18 @@
 // Taking the records of a segment file into a graph that is being built. The state is tested by
-// whoever calls, once; each addition leaves it as the next one needs it.
+// whoever calls, once; each addition leaves it as the next one needs it. The graph is chained here, once
+// for all the records, so that an addition looks at few nodes and half-edges.
 ghost use mathlib.Core.Path.{_≡_};
 ghost use Rattle.adding.specs.Outcomes.{Ready};
-ghost use Rattle.adding.specs.Outcomes.{replyOf as addReplyOf};
 ghost use Rattle.rules.specs.Limits.{limits};
 ghost use Rattle.rules.specs.SegmentFile.{readAt};
 ghost use Rattle.tables.specs.Tables.{stateOf};
-ghost use Rattle.intake.specs.Taking.{alone, takeRecord, takeRecords, endReply};
-ghost use Rattle.intake.specs.Answers.{replyOf, turnOf, takingOf};
-use adding::AddReply;
+ghost use Rattle.intake.specs.Taking.{takeRecords, endReply};
+ghost use Rattle.intake.specs.Answers.{replyOf, takingOf};
+use chained::take_chained;
 use segment_file::Record;
 use tables::PlanarGraph;
 
+mod chained;
 mod numbers;
 
 pub use numbers::file_number;
@@ -19,6 +20,11 @@ pub use numbers::refusal_number;
 
 // How many bytes a record has.
 pub const RECORD_BYTES: usize = 58;
+
+// The chains of nodes and of half-edges: their heads, and an entry for each that there may be.
+const NODE_CHAINS: usize = lookup::NODE_HEADS + tables::MAX_NODES;
+
+const HALF_CHAINS: usize = lookup::HALF_HEADS + 2 * tables::MAX_EDGES;
 
 // What taking answers: all was taken, or document 01's number of the first refusal.
 pub enum TakeReply {
@@ -39,17 +45,6 @@ pub struct Taken {
     pub reply: TakeReply,
 }
 
-// Of an addition's answer, whether it was refused.
-fn taken_reply(reply: AddReply) -> TakeReply
-    ensures { λ r. ⌜ replyOf r ≡ alone (addReplyOf reply) ⌝ }
-{
-    match reply {
-        AddReply::New(_) => TakeReply::Done,
-        AddReply::Old(_) => TakeReply::Done,
-        AddReply::Refused(why) => TakeReply::Refused(refusal_number(why)),
-    }
-}
-
 // What is left where the input ends: nothing, or bytes too few for a record.
 pub fn end_reply(bytes: &[u8]) -> TakeReply
     ensures { λ r. ⌜ replyOf r ≡ endReply (readAt (now (bytes .entry)) 0) ⌝ }
@@ -58,63 +53,6 @@ pub fn end_reply(bytes: &[u8]) -> TakeReply
         Record::Segment(_, _) => TakeReply::Done,
         Record::Refused(why) => TakeReply::Refused(file_number(why)),
         Record::End => TakeReply::Done,
-    }
-}
-
-// The record at a place: its segment is added to the graph, which is in stage 0 and passed numbers
-// 6 and 7.
-fn take_record(
-    graph: PlanarGraph,
-    bytes: &[u8],
-    at: usize,
-    nodes_x: &mut [f64],
-    nodes_y: &mut [f64],
-    nodes_z: &mut [f64],
-    nodes_degree: &mut [u16],
-    nodes_marked: &mut [bool],
-    edges_line: &mut [f64],
-    edges_line_id: &mut [u32],
-    dir_edges_src: &mut [u16],
-    dir_edges_dst: &mut [u16],
-    dir_edges_marked: &mut [bool],
-    nodes_outgoing: &mut [u16],
-) -> Turn
-    requires { ⌜ Ready limits (stateOf graph (now «nodes_x») (now «nodes_y») (now «nodes_z») (now «nodes_degree») (now «nodes_marked») (now «edges_line») (now «edges_line_id») (now «dir_edges_src») (now «dir_edges_dst») (now «dir_edges_marked») (now «nodes_outgoing»)) ⌝ }
-    ensures { λ r. ⌜ turnOf r (now («nodes_x» .exit)) (now («nodes_y» .exit)) (now («nodes_z» .exit)) (now («nodes_degree» .exit)) (now («nodes_marked» .exit)) (now («edges_line» .exit)) (now («edges_line_id» .exit)) (now («dir_edges_src» .exit)) (now («dir_edges_dst» .exit)) (now («dir_edges_marked» .exit)) (now («nodes_outgoing» .exit))
-        ≡ takeRecord limits (readAt (now (bytes .entry)) at) (stateOf graph (now («nodes_x» .entry)) (now («nodes_y» .entry)) (now («nodes_z» .entry)) (now («nodes_degree» .entry)) (now («nodes_marked» .entry)) (now («edges_line» .entry)) (now («edges_line_id» .entry)) (now («dir_edges_src» .entry)) (now («dir_edges_dst» .entry)) (now («dir_edges_marked» .entry)) (now («nodes_outgoing» .entry))) ⌝ }
-{
-    match segment_file::read_record(bytes, at) {
-        Record::Segment(line, _) => {
-            let added = adding::add_core(
-                graph,
-                line,
-                nodes_x,
-                nodes_y,
-                nodes_z,
-                nodes_degree,
-                nodes_marked,
-                edges_line,
-                edges_line_id,
-                dir_edges_src,
-                dir_edges_dst,
-                dir_edges_marked,
-                nodes_outgoing,
-            );
-            let after = added.graph;
-            let answer = added.reply;
-            Turn {
-                graph: after,
-                reply: taken_reply(answer),
-            }
-        }
-        Record::Refused(why) => Turn {
-            graph,
-            reply: TakeReply::Refused(file_number(why)),
-        },
-        Record::End => Turn {
-            graph,
-            reply: TakeReply::Done,
-        },
     }
 }
 
@@ -139,41 +77,33 @@ pub fn take_records(
     ensures { λ r. ⌜ takingOf r (now («nodes_x» .exit)) (now («nodes_y» .exit)) (now («nodes_z» .exit)) (now («nodes_degree» .exit)) (now («nodes_marked» .exit)) (now («edges_line» .exit)) (now («edges_line_id» .exit)) (now («dir_edges_src» .exit)) (now («dir_edges_dst» .exit)) (now («dir_edges_marked» .exit)) (now («nodes_outgoing» .exit))
         ≡ takeRecords limits (now (bytes .entry)) (stateOf graph (now («nodes_x» .entry)) (now («nodes_y» .entry)) (now («nodes_z» .entry)) (now («nodes_degree» .entry)) (now («nodes_marked» .entry)) (now («edges_line» .entry)) (now («edges_line_id» .entry)) (now («dir_edges_src» .entry)) (now («dir_edges_dst» .entry)) (now («dir_edges_marked» .entry)) (now («nodes_outgoing» .entry))) ⌝ }
 {
-    let whole = bytes.len() / RECORD_BYTES;
-    let mut current = graph;
-    let mut count = 0;
-    while count < whole {
-        let turn = take_record(
-            current,
-            bytes,
-            RECORD_BYTES * count,
-            nodes_x,
-            nodes_y,
-            nodes_z,
-            nodes_degree,
-            nodes_marked,
-            edges_line,
-            edges_line_id,
-            dir_edges_src,
-            dir_edges_dst,
-            dir_edges_marked,
-            nodes_outgoing,
-        );
-        let after = turn.graph;
-        let reply = turn.reply;
-        if let TakeReply::Refused(number) = reply {
-            return Taken {
-                graph: after,
-                count,
-                reply: TakeReply::Refused(number),
-            };
-        }
-        current = after;
-        count += 1;
-    }
-    Taken {
-        graph: current,
-        count,
-        reply: TakeReply::Done,
-    }
+    let mut node_chains = [0u16; NODE_CHAINS];
+    let mut half_chains = [0u16; HALF_CHAINS];
+    lookup::chain_all(
+        graph,
+        nodes_x,
+        nodes_y,
+        dir_edges_src,
+        dir_edges_dst,
+        nodes_outgoing,
+        &mut node_chains,
+        &mut half_chains,
+    );
+    take_chained(
+        graph,
+        bytes,
+        nodes_x,
+        nodes_y,
+        nodes_z,
+        nodes_degree,
+        nodes_marked,
+        edges_line,
+        edges_line_id,
+        dir_edges_src,
+        dir_edges_dst,
+        dir_edges_marked,
+        nodes_outgoing,
+        &mut node_chains,
+        &mut half_chains,
+    )
 }

@@ -4,7 +4,7 @@ use native.Mathlib.Omega.{arith}
 use mathlib.Core.Path.{_≡_, refl, sym, ap, ap₂, subst, _∙_}
 use mathlib.Core.List.{List}
 use lib.Ieee.{Float}
-use lib.ListN.{length, getD, replicate}
+use lib.ListN.{length, getD, replicate, length-replicate}
 use Rattle.chains.specs.Chains.{Chained}
 use Rattle.chains.proofs.Chaining.{chained-none, chained-same}
 use Rattle.geometry.specs.declared.Line3D.{Line3D}
@@ -43,7 +43,7 @@ module _ (line : Line3D) (s : State) (ready : Ready limits s) (nodeChains halfCh
   -- of its nodes
   pub nodes-chained : NodesChained (s .nodes) (s .nodeX) (s .nodeY) nodeChains
   nodes-chained =
-      let q = searchable line s ready in
+      let q = searchable s ready in
       record {
         roomX = q .roomX;
         roomY = q .roomY;
@@ -54,7 +54,7 @@ module _ (line : Line3D) (s : State) (ready : Ready limits s) (nodeChains halfCh
   -- of its half-edges
   pub halves-chained : HalvesChained (2 * s .edges) (s .source) (s .target) (s .star) halfChains
   halves-chained =
-      let q = searchable line s ready in
+      let q = searchable s ready in
       record {
         roomStar = q .roomStar;
         known = q .known;
@@ -73,7 +73,7 @@ module _ (line : Line3D) (s : State) (ready : Ready limits s) (nodeChains halfCh
     kept = add-kept line s ready o is
 
     ask : Searchable (t .nodes) (t .edges) (t .nodeX) (t .nodeY) (t .source) (t .target) (t .star)
-    ask = searchable line t (ready-again line s ready o is)
+    ask = searchable t (ready-again line s ready o is)
 
     -- the nodes that were there are chained in the new tables, and there is room for the others
     pub nodes-still : NodesChained (s .nodes) (t .nodeX) (t .nodeY) nodeChains
@@ -112,7 +112,7 @@ module _ (line : Line3D) (s : State) (ready : Ready limits s) (nodeChains halfCh
 
     -- the edges of either are few
     pub few-edges : (s .edges ≤ 1024) × (t .edges ≤ 1024)
-    few-edges = (searchable line s ready .fewEdges, ask .fewEdges)
+    few-edges = (searchable s ready .fewEdges, ask .fewEdges)
 
     -- with what is new chained too, all is
     pub indexed-again : (nodeChains′ halfChains′ : List ℕ) → NodesChained (t .nodes) (t .nodeX) (t .nodeY) nodeChains′
@@ -124,3 +124,17 @@ module _ (line : Line3D) (s : State) (ready : Ready limits s) (nodeChains halfCh
       nodeRoom = omega (arith, la, k .nodeRoom);
       halfRoom = omega (arith, lb, k .halfRoom);
     }
+
+-- ---- fresh tables
+
+-- a table of zeros
+pub zeros : (n : ℕ) → replicate {A = ℕ} n 0 ≡ replicate {A = ℕ} (length (replicate {A = ℕ} n 0)) 0
+zeros n = ap (λ m. replicate {A = ℕ} m 0) (sym (length-replicate {A = ℕ} n 0))
+
+-- is as long as it was made
+pub zeros-long : (m n : ℕ) → m ≤ n → m ≤ length (replicate {A = ℕ} n 0)
+zeros-long m n h = omega (arith, length-replicate {A = ℕ} n 0)
+
+-- and so is what comes of it
+pub still-long : (m n : ℕ) (l : List ℕ) → length l ≡ length (replicate {A = ℕ} n 0) → m ≤ n → m ≤ length l
+still-long m n l e h = omega (arith, e, length-replicate {A = ℕ} n 0)

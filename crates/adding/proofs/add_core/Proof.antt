@@ -13,7 +13,7 @@ was k = let a = k .args in stateOf (a .graph) (a .nodes-x .now) (a .nodes-y .now
 
 -- what the searches ask
 asked : (k : tie.Start) → Searchable (k .args .graph .«node_count») (k .args .graph .«edge_count») (k .args .nodes-x .now) (k .args .nodes-y .now) (k .args .dir-edges-src .now) (k .args .dir-edges-dst .now) (k .args .nodes-outgoing .now)
-asked k = searchable (k .args .line) (was k) (k .pre)
+asked k = searchable (was k) (k .pre)
 
 find-node-requires : tie.Need-find-node-requires
 find-node-requires c κs = let q = asked (c .before .before .before .before .before .before .before .before .before .before .before .before .before) in (q .roomX, q .roomY)

@@ -30,7 +30,7 @@ adds k d e = sym (add-carried (k .args .line) (was k) (k .pre .0) ∙ ap (λ z. 
 decide-requires : tie.Need-decide-requires
 decide-requires c κs =
     let k = c .before .before .before .before .before .before .before .before .before .before .before in
-    let q = searchable (k .args .line) (was k) (k .pre .0) in
+    let q = searchable (was k) (k .pre .0) in
     (q .fewNodes, q .fewEdges)
 
 enum-known-why : tie.Need-enum-known-why

@@ -1,187 +1,104 @@
--- `take_records` meets its contract. After `count` turns, taking what is left from the present state on comes to what taking all does.
-use Prim.Native.Nat.{ℕ, _+_, _-_, _*_, _/_, _<_, _≤_}
-use mathlib.Core.List.{List}
-use Rattle.rules.specs.State.{State}
+-- `take_records` meets its contract: the graph is chained, and then its records are taken.
+use Rattle.lookup.proofs.Growing.{zeros, zeros-long, still-long}
 use native.Mathlib.Omega.{arith}
-use mathlib.Core.Path.{_≡_, refl, ap, _∙_}
-use lib.ListN.{length}
-use Rattle.rules.specs.Limits.{limits}
+use mathlib.Core.Path.{refl}
 use Rattle.tables.specs.Tables.{stateOf}
-use Rattle.adding.specs.Outcomes.{Ready}
-use Rattle.intake.specs.Taking.{takeFrom}
-use Rattle.intake.specs.Answers.{replyOf}
-use Rattle.intake.proofs.Turns.{turn-stops, turn-goes, turns-start, turns-end, turn-ready}
+use Rattle.adding.proofs.Carrying.{searchable}
 use borrow.Author.Needs.{needs}
 use Rattle.intake.proofs.take_records.Statement.{statement}
 use Rattle.intake.proofs.take_records.Tie as tie
+use Rattle.intake.proofs.take_records.Reads as reads
+use Rattle.intake.proofs.take_records.Lts as lts
+use Rattle.intake.proofs.chained.take_chained.Reads as take-chained-reads
+use Rattle.lookup.proofs.chain_all.Reads as chain-all-reads
 
-abbrev Inv-loop : tie.InvT-loop
-Inv-loop bytes nodes-x₀ nodes-y₀ nodes-z₀ nodes-degree₀ nodes-marked₀ edges-line₀ edges-line-id₀ dir-edges-src₀ dir-edges-dst₀ dir-edges-marked₀ nodes-outgoing₀ whole current₀ count₀ nodes-x nodes-y nodes-z nodes-degree nodes-marked edges-line edges-line-id dir-edges-src dir-edges-dst dir-edges-marked nodes-outgoing current count =
-    let s₀ = stateOf current₀ nodes-x₀ nodes-y₀ nodes-z₀ nodes-degree₀ nodes-marked₀ edges-line₀ edges-line-id₀ dir-edges-src₀ dir-edges-dst₀ dir-edges-marked₀ nodes-outgoing₀ in
-    let s = stateOf current nodes-x nodes-y nodes-z nodes-degree nodes-marked edges-line edges-line-id dir-edges-src dir-edges-dst dir-edges-marked nodes-outgoing in
-    Ready limits s
-    × (takeFrom limits bytes (whole - count) count s ≡ takeFrom limits bytes whole 0 s₀)
-    × (count ≤ whole)
-    × (length nodes-x ≡ length nodes-x₀)
-    × (length nodes-y ≡ length nodes-y₀)
-    × (length nodes-z ≡ length nodes-z₀)
-    × (length nodes-degree ≡ length nodes-degree₀)
-    × (length nodes-marked ≡ length nodes-marked₀)
-    × (length edges-line ≡ length edges-line₀)
-    × (length edges-line-id ≡ length edges-line-id₀)
-    × (length dir-edges-src ≡ length dir-edges-src₀)
-    × (length dir-edges-dst ≡ length dir-edges-dst₀)
-    × (length dir-edges-marked ≡ length dir-edges-marked₀)
-    × (length nodes-outgoing ≡ length nodes-outgoing₀)
+-- src/lib.rt:89:9
+slice-aggregate-chain-all : tie.Need-slice-aggregate-chain-all
+slice-aggregate-chain-all c = search needs
 
-abbrev μ-loop : tie.MeasureT-loop
-μ-loop bytes nodes-x₀ nodes-y₀ nodes-z₀ nodes-degree₀ nodes-marked₀ edges-line₀ edges-line-id₀ dir-edges-src₀ dir-edges-dst₀ dir-edges-marked₀ nodes-outgoing₀ whole current₀ count₀ nodes-x nodes-y nodes-z nodes-degree nodes-marked edges-line edges-line-id dir-edges-src dir-edges-dst dir-edges-marked nodes-outgoing current count =
-    whole - count
+-- src/lib.rt:90:9
+slice-aggregate-chain-all-2 : tie.Need-slice-aggregate-chain-all-2
+slice-aggregate-chain-all-2 c = search needs
 
--- at the loop's test: the bytes, how many records they hold, and the state
-abbrev at-bytes : tie.At-loop Inv-loop μ-loop → List ℕ
-at-bytes c = c .before .before .before .before .before .before .before .before .before .before .before .before .before .args .bytes .now
+-- src/lib.rt:82:5
+chain-all-requires : tie.Need-chain-all-requires
+chain-all-requires c κs =
+    let a = c .before .before .before .before .before .before .before .before .before .before .before .before .before .before .before .before .before .before .before .args in
+    (searchable (stateOf (a .graph) (a .nodes-x .now) (a .nodes-y .now) (a .nodes-z .now) (a .nodes-degree .now) (a .nodes-marked .now) (a .edges-line .now) (a .edges-line-id .now) (a .dir-edges-src .now) (a .dir-edges-dst .now) (a .dir-edges-marked .now) (a .nodes-outgoing .now)) (c .before .before .before .before .before .before .before .before .before .before .before .before .before .before .before .before .before .before .before .pre), ((zeros 3072, zeros-long 3072 3072 (omega arith)), (zeros 6144, zeros-long 6144 6144 (omega arith))))
 
-abbrev many : tie.At-loop Inv-loop μ-loop → ℕ
-many c = length (at-bytes c) / 58
+-- src/lib.rt:106:9
+slice-aggregate-take-chained : tie.Need-slice-aggregate-take-chained
+slice-aggregate-take-chained c = search needs
 
-abbrev held : tie.At-loop Inv-loop μ-loop → State
-held c = let q = c .loop in
-    stateOf (q .current) (q .nodes-x) (q .nodes-y) (q .nodes-z) (q .nodes-degree) (q .nodes-marked) (q .edges-line) (q .edges-line-id) (q .dir-edges-src) (q .dir-edges-dst) (q .dir-edges-marked) (q .nodes-outgoing)
+-- src/lib.rt:107:9
+slice-aggregate-take-chained-2 : tie.Need-slice-aggregate-take-chained-2
+slice-aggregate-take-chained-2 c = search needs
 
-loop-holds : tie.Need-loop-holds Inv-loop μ-loop
-loop-holds c = (c .before .before .before .before .before .before .before .before .before .before .before .before .pre, turns-start limits (c .before .before .before .before .before .before .before .before .before .before .before .before .args .bytes .now) (length (c .before .before .before .before .before .before .before .before .before .before .before .before .args .bytes .now) / 58) _, omega arith, refl, refl, refl, refl, refl, refl, refl, refl, refl, refl, refl)
+-- src/lib.rt:92:5
+take-chained-requires : tie.Need-take-chained-requires
+take-chained-requires c κs =
+    let a = c .before .before .before .before .before .before .before .before .before .before .before .before .before .before .before .before .before .before .before .before .before .before .before .before .before .before .before .before .before .before .before .before .before .before .before .args in
+    let k = c .before .before .before .before .before .before .before .before .before .before .before .before .before .before .before .chain-all in
+    (c .before .before .before .before .before .before .before .before .before .before .before .before .before .before .before .before .before .before .before .before .before .before .before .before .before .before .before .before .before .before .before .before .before .before .before .pre, record { nodes = k .ensures .0 .chained; halves = k .ensures .1 .chained; nodeRoom = still-long 3072 3072 (k .last .1 .1 .1 .1 .1 .1 .0) (k .kept .1 .1 .1 .1 .1 .1 .0) (omega arith); halfRoom = still-long 6144 6144 (k .last .1 .1 .1 .1 .1 .1 .1 .0) (k .kept .1 .1 .1 .1 .1 .1 .1 .0) (omega arith) })
 
-mul-take-record : tie.Need-mul-take-record Inv-loop μ-loop
-mul-take-record c = omega arith
+-- src/lib.rt:61:1
+same-length : tie.Need-same-length
+same-length c = search needs
 
-take-record-requires : tie.Need-take-record-requires Inv-loop μ-loop
-take-record-requires c κs = c .before .before .before .before .before .before .before .before .before .before .before .before .loop .inv .0
+-- src/lib.rt:61:1
+same-length-2 : tie.Need-same-length-2
+same-length-2 c = c .before .before .before .before .before .before .before .before .before .before .before .before .before .before .before .before .before .before .before .before .before .before .before .before .take-chained .kept .1 .1 .1 .0
 
-enum-known-reply : tie.Need-enum-known-reply Inv-loop μ-loop
-enum-known-reply c = search needs
+-- src/lib.rt:61:1
+same-length-3 : tie.Need-same-length-3
+same-length-3 c = c .before .before .before .before .before .before .before .before .before .before .before .before .before .before .before .before .before .before .before .before .before .before .before .before .take-chained .kept .1 .1 .1 .1 .0
 
-same-length : tie.Need-same-length Inv-loop μ-loop
-same-length c = c .before .before .before .before .before .before .before .before .before .before .before .before .before .before .before .before .before .before .before .before .before .before .before .before .before .before .take-record .kept .1 .1 .1 .0 ∙ c .before .before .before .before .before .before .before .before .before .before .before .before .before .before .before .before .before .before .before .before .before .before .before .before .before .before .before .before .before .before .before .before .before .before .before .before .before .before .before .loop .inv .3
+-- src/lib.rt:61:1
+same-length-4 : tie.Need-same-length-4
+same-length-4 c = c .before .before .before .before .before .before .before .before .before .before .before .before .before .before .before .before .before .before .before .before .before .before .before .before .take-chained .kept .1 .1 .1 .1 .1 .0
 
-same-length-2 : tie.Need-same-length-2 Inv-loop μ-loop
-same-length-2 c = c .before .before .before .before .before .before .before .before .before .before .before .before .before .before .before .before .before .before .before .before .before .before .before .before .before .before .take-record .kept .1 .1 .1 .1 .0 ∙ c .before .before .before .before .before .before .before .before .before .before .before .before .before .before .before .before .before .before .before .before .before .before .before .before .before .before .before .before .before .before .before .before .before .before .before .before .before .before .before .loop .inv .4
+-- src/lib.rt:61:1
+same-length-5 : tie.Need-same-length-5
+same-length-5 c = search needs
 
-same-length-3 : tie.Need-same-length-3 Inv-loop μ-loop
-same-length-3 c = c .before .before .before .before .before .before .before .before .before .before .before .before .before .before .before .before .before .before .before .before .before .before .before .before .before .before .take-record .kept .1 .1 .1 .1 .1 .0 ∙ c .before .before .before .before .before .before .before .before .before .before .before .before .before .before .before .before .before .before .before .before .before .before .before .before .before .before .before .before .before .before .before .before .before .before .before .before .before .before .before .loop .inv .5
+-- src/lib.rt:61:1
+same-length-6 : tie.Need-same-length-6
+same-length-6 c = search needs
 
-same-length-4 : tie.Need-same-length-4 Inv-loop μ-loop
-same-length-4 c = c .before .before .before .before .before .before .before .before .before .before .before .before .before .before .before .before .before .before .before .before .before .before .before .before .before .before .take-record .kept .1 .1 .1 .1 .1 .1 .0 ∙ c .before .before .before .before .before .before .before .before .before .before .before .before .before .before .before .before .before .before .before .before .before .before .before .before .before .before .before .before .before .before .before .before .before .before .before .before .before .before .before .loop .inv .6
+-- src/lib.rt:61:1
+same-length-7 : tie.Need-same-length-7
+same-length-7 c = search needs
 
-same-length-5 : tie.Need-same-length-5 Inv-loop μ-loop
-same-length-5 c = c .before .before .before .before .before .before .before .before .before .before .before .before .before .before .before .before .before .before .before .before .before .before .before .before .before .before .take-record .kept .1 .1 .1 .1 .1 .1 .1 .0 ∙ c .before .before .before .before .before .before .before .before .before .before .before .before .before .before .before .before .before .before .before .before .before .before .before .before .before .before .before .before .before .before .before .before .before .before .before .before .before .before .before .loop .inv .7
+-- src/lib.rt:61:1
+same-length-8 : tie.Need-same-length-8
+same-length-8 c = search needs
 
-same-length-6 : tie.Need-same-length-6 Inv-loop μ-loop
-same-length-6 c = c .before .before .before .before .before .before .before .before .before .before .before .before .before .before .before .before .before .before .before .before .before .before .before .before .before .before .take-record .kept .1 .1 .1 .1 .1 .1 .1 .1 .0 ∙ c .before .before .before .before .before .before .before .before .before .before .before .before .before .before .before .before .before .before .before .before .before .before .before .before .before .before .before .before .before .before .before .before .before .before .before .before .before .before .before .loop .inv .8
+-- src/lib.rt:61:1
+same-length-9 : tie.Need-same-length-9
+same-length-9 c = search needs
 
-same-length-7 : tie.Need-same-length-7 Inv-loop μ-loop
-same-length-7 c = c .before .before .before .before .before .before .before .before .before .before .before .before .before .before .before .before .before .before .before .before .before .before .before .before .before .before .take-record .kept .1 .1 .1 .1 .1 .1 .1 .1 .1 .0 ∙ c .before .before .before .before .before .before .before .before .before .before .before .before .before .before .before .before .before .before .before .before .before .before .before .before .before .before .before .before .before .before .before .before .before .before .before .before .before .before .before .loop .inv .9
+-- src/lib.rt:61:1
+same-length-10 : tie.Need-same-length-10
+same-length-10 c = search needs
 
-same-length-8 : tie.Need-same-length-8 Inv-loop μ-loop
-same-length-8 c = c .before .before .before .before .before .before .before .before .before .before .before .before .before .before .before .before .before .before .before .before .before .before .before .before .before .before .take-record .kept .1 .1 .1 .1 .1 .1 .1 .1 .1 .1 .0 ∙ c .before .before .before .before .before .before .before .before .before .before .before .before .before .before .before .before .before .before .before .before .before .before .before .before .before .before .before .before .before .before .before .before .before .before .before .before .before .before .before .loop .inv .10
+-- src/lib.rt:61:1
+same-length-11 : tie.Need-same-length-11
+same-length-11 c = search needs
 
-same-length-9 : tie.Need-same-length-9 Inv-loop μ-loop
-same-length-9 c = c .before .before .before .before .before .before .before .before .before .before .before .before .before .before .before .before .before .before .before .before .before .before .before .before .before .before .take-record .kept .1 .1 .1 .1 .1 .1 .1 .1 .1 .1 .1 .0 ∙ c .before .before .before .before .before .before .before .before .before .before .before .before .before .before .before .before .before .before .before .before .before .before .before .before .before .before .before .before .before .before .before .before .before .before .before .before .before .before .before .loop .inv .11
-
-same-length-10 : tie.Need-same-length-10 Inv-loop μ-loop
-same-length-10 c = c .before .before .before .before .before .before .before .before .before .before .before .before .before .before .before .before .before .before .before .before .before .before .before .before .before .before .take-record .kept .1 .1 .1 .1 .1 .1 .1 .1 .1 .1 .1 .1 .0 ∙ c .before .before .before .before .before .before .before .before .before .before .before .before .before .before .before .before .before .before .before .before .before .before .before .before .before .before .before .before .before .before .before .before .before .before .before .before .before .before .before .loop .inv .12
-
-same-length-11 : tie.Need-same-length-11 Inv-loop μ-loop
-same-length-11 c = c .before .before .before .before .before .before .before .before .before .before .before .before .before .before .before .before .before .before .before .before .before .before .before .before .before .before .take-record .kept .1 .1 .1 .1 .1 .1 .1 .1 .1 .1 .1 .1 .1 .0 ∙ c .before .before .before .before .before .before .before .before .before .before .before .before .before .before .before .before .before .before .before .before .before .before .before .before .before .before .before .before .before .before .before .before .before .before .before .before .before .before .before .loop .inv .13
-
-returns : tie.Need-returns Inv-loop μ-loop
-returns c =
-    let q = c .before .before .before .before .before .before .before .before .before .before .before .before .before .before .before .before .before .before .before .before .before .before .before .before .before .before .before .before .before .before .before .before .before .before .before .before .before .before .before .loop in
-    let t = c .before .before .before .before .before .before .before .before .before .before .before .before .before .before .before .before .before .before .before .before .before .before .before .before .before .before .take-record in
-    turn-stops (at-bytes (c .before .before .before .before .before .before .before .before .before .before .before .before .before .before .before .before .before .before .before .before .before .before .before .before .before .before .before .before .before .before .before .before .before .before .before .before .before .before .before)) (many (c .before .before .before .before .before .before .before .before .before .before .before .before .before .before .before .before .before .before .before .before .before .before .before .before .before .before .before .before .before .before .before .before .before .before .before .before .before .before .before)) (q .count) (held (c .before .before .before .before .before .before .before .before .before .before .before .before .before .before .before .before .before .before .before .before .before .before .before .before .before .before .before .before .before .before .before .before .before .before .before .before .before .before .before)) _ (c .before .before .before .before .before .before .before .before .before .before .before .before .before .before .before .before .before .before .before .before .before .before .before .before .before .before .before .before .before .before .before .before .before .before .before .before .before .before .loop-test .taken) (t .ensures) (q .inv .0) _ (ap replyOf (c .before .reply .given .1))
-    ∙ q .inv .1
-
-enum-told : tie.Need-enum-told Inv-loop μ-loop
-enum-told c = search needs
-
--- the next count is a usize
-small : (c : tie.In-loop Inv-loop μ-loop) → c .before .loop .count + 1 < 18446744073709551616
-small c = omega arith
-
-add-count : tie.Need-add-count Inv-loop μ-loop
-add-count c = omega (arith, small (c .before .before .before .before .before .before .before .before .before .before .before .before .before .before .before .before .before .before .before .before .before .before .before .before .before .before .before .before .before .before .before .before .before .before .before .before .before))
-
-loop-less : tie.Need-loop-less Inv-loop μ-loop
-loop-less c = omega (arith, c .before .before .before .before .before .before .before .before .before .before .before .before .before .before .before .before .before .before .before .before .before .before .before .before .before .before .before .before .before .before .before .before .before .before .before .before .before .loop-test .taken)
-
-loop-again : tie.Need-loop-again Inv-loop μ-loop
-loop-again c =
-    let q = c .before .before .before .before .before .before .before .before .before .before .before .before .before .before .before .before .before .before .before .before .before .before .before .before .before .before .before .before .before .before .before .before .before .before .before .before .before .before .loop in
-    let t = c .before .before .before .before .before .before .before .before .before .before .before .before .before .before .before .before .before .before .before .before .before .before .before .before .before .take-record in (
-      turn-ready (at-bytes (c .before .before .before .before .before .before .before .before .before .before .before .before .before .before .before .before .before .before .before .before .before .before .before .before .before .before .before .before .before .before .before .before .before .before .before .before .before .before)) (58 * q .count) (held (c .before .before .before .before .before .before .before .before .before .before .before .before .before .before .before .before .before .before .before .before .before .before .before .before .before .before .before .before .before .before .before .before .before .before .before .before .before .before)) _ (t .ensures) (q .inv .0),
-      turn-goes (at-bytes (c .before .before .before .before .before .before .before .before .before .before .before .before .before .before .before .before .before .before .before .before .before .before .before .before .before .before .before .before .before .before .before .before .before .before .before .before .before .before)) (many (c .before .before .before .before .before .before .before .before .before .before .before .before .before .before .before .before .before .before .before .before .before .before .before .before .before .before .before .before .before .before .before .before .before .before .before .before .before .before)) (q .count) (held (c .before .before .before .before .before .before .before .before .before .before .before .before .before .before .before .before .before .before .before .before .before .before .before .before .before .before .before .before .before .before .before .before .before .before .before .before .before .before)) _ (c .before .before .before .before .before .before .before .before .before .before .before .before .before .before .before .before .before .before .before .before .before .before .before .before .before .before .before .before .before .before .before .before .before .before .before .before .before .loop-test .taken) (t .ensures) _ (ap replyOf (c .enum-told .given .1)) ∙ q .inv .1,
-      omega (arith, c .before .before .before .before .before .before .before .before .before .before .before .before .before .before .before .before .before .before .before .before .before .before .before .before .before .before .before .before .before .before .before .before .before .before .before .before .before .loop-test .taken),
-      t .kept .1 .1 .1 .0 ∙ q .inv .3,
-      t .kept .1 .1 .1 .1 .0 ∙ q .inv .4,
-      t .kept .1 .1 .1 .1 .1 .0 ∙ q .inv .5,
-      t .kept .1 .1 .1 .1 .1 .1 .0 ∙ q .inv .6,
-      t .kept .1 .1 .1 .1 .1 .1 .1 .0 ∙ q .inv .7,
-      t .kept .1 .1 .1 .1 .1 .1 .1 .1 .0 ∙ q .inv .8,
-      t .kept .1 .1 .1 .1 .1 .1 .1 .1 .1 .0 ∙ q .inv .9,
-      t .kept .1 .1 .1 .1 .1 .1 .1 .1 .1 .1 .0 ∙ q .inv .10,
-      t .kept .1 .1 .1 .1 .1 .1 .1 .1 .1 .1 .1 .0 ∙ q .inv .11,
-      t .kept .1 .1 .1 .1 .1 .1 .1 .1 .1 .1 .1 .1 .0 ∙ q .inv .12,
-      t .kept .1 .1 .1 .1 .1 .1 .1 .1 .1 .1 .1 .1 .1 .0 ∙ q .inv .13,
-    )
-
-same-length-12 : tie.Need-same-length-12 Inv-loop μ-loop
-same-length-12 c = c .before .loop .inv .3
-
-same-length-13 : tie.Need-same-length-13 Inv-loop μ-loop
-same-length-13 c = c .before .loop .inv .4
-
-same-length-14 : tie.Need-same-length-14 Inv-loop μ-loop
-same-length-14 c = c .before .loop .inv .5
-
-same-length-15 : tie.Need-same-length-15 Inv-loop μ-loop
-same-length-15 c = c .before .loop .inv .6
-
-same-length-16 : tie.Need-same-length-16 Inv-loop μ-loop
-same-length-16 c = c .before .loop .inv .7
-
-same-length-17 : tie.Need-same-length-17 Inv-loop μ-loop
-same-length-17 c = c .before .loop .inv .8
-
-same-length-18 : tie.Need-same-length-18 Inv-loop μ-loop
-same-length-18 c = c .before .loop .inv .9
-
-same-length-19 : tie.Need-same-length-19 Inv-loop μ-loop
-same-length-19 c = c .before .loop .inv .10
-
-same-length-20 : tie.Need-same-length-20 Inv-loop μ-loop
-same-length-20 c = c .before .loop .inv .11
-
-same-length-21 : tie.Need-same-length-21 Inv-loop μ-loop
-same-length-21 c = c .before .loop .inv .12
-
-same-length-22 : tie.Need-same-length-22 Inv-loop μ-loop
-same-length-22 c = c .before .loop .inv .13
-
-returns-2 : tie.Need-returns-2 Inv-loop μ-loop
-returns-2 c =
-    let q = c .before .loop in
-    turns-end limits (at-bytes (c .before)) (many (c .before)) (q .count) (held (c .before)) (c .loop-test .left) ∙ q .inv .1
+-- src/lib.rt:61:1
+returns : tie.Need-returns
+returns c = search needs
 
 pub take-records-spec : {M : Type 1} → statement M
 take-records-spec =
     tie.close
     (tie.spec
-    Inv-loop
-    μ-loop
-    loop-holds
-    mul-take-record
-    take-record-requires
-    enum-known-reply
+    slice-aggregate-chain-all
+    slice-aggregate-chain-all-2
+    chain-all-requires
+    slice-aggregate-take-chained
+    slice-aggregate-take-chained-2
+    take-chained-requires
     same-length
     same-length-2
     same-length-3
@@ -193,20 +110,4 @@ take-records-spec =
     same-length-9
     same-length-10
     same-length-11
-    returns
-    enum-told
-    add-count
-    loop-less
-    loop-again
-    same-length-12
-    same-length-13
-    same-length-14
-    same-length-15
-    same-length-16
-    same-length-17
-    same-length-18
-    same-length-19
-    same-length-20
-    same-length-21
-    same-length-22
-    returns-2)
+    returns)

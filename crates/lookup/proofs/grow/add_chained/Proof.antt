@@ -33,7 +33,7 @@ find-half-requires c κs =
     let a = c .before .before .before .before .before .before .before .before .before .before .before .before .before .before .before .before .before .before .before .before .before .before .before .before .before .before .before .args in
     let s = stateOf (a .graph) (a .nodes-x .now) (a .nodes-y .now) (a .nodes-z .now) (a .nodes-degree .now) (a .nodes-marked .now) (a .edges-line .now) (a .edges-line-id .now) (a .dir-edges-src .now) (a .dir-edges-dst .now) (a .dir-edges-marked .now) (a .nodes-outgoing .now) in
     let h = halves-chained (a .line) s (c .before .before .before .before .before .before .before .before .before .before .before .before .before .before .before .before .before .before .before .before .before .before .before .before .before .before .before .pre .0) (a .node-chains .now) (a .half-chains .now) (c .before .before .before .before .before .before .before .before .before .before .before .before .before .before .before .before .before .before .before .before .before .before .before .before .before .before .before .pre .1) in
-    (omega (arith, searchable (a .line) s (c .before .before .before .before .before .before .before .before .before .before .before .before .before .before .before .before .before .before .before .before .before .before .before .before .before .before .before .pre .0) .fewEdges), h)
+    (omega (arith, searchable s (c .before .before .before .before .before .before .before .before .before .before .before .before .before .before .before .before .before .before .before .before .before .before .before .before .before .before .before .pre .0) .fewEdges), h)
 
 -- src/grow.rt:90:9
 add-found-requires : tie.Need-add-found-requires
@@ -51,7 +51,7 @@ enter-nodes-requires c κs =
 mul-enter-halves : tie.Need-mul-enter-halves
 mul-enter-halves c =
     let a = c .before .before .before .before .before .before .before .before .before .before .before .before .before .before .before .before .before .before .before .before .before .before .before .before .before .before .before .before .before .before .before .before .before .before .before .before .before .before .before .before .before .before .before .before .before .before .before .before .before .before .before .before .before .before .before .before .before .before .before .before .before .before .before .before .before .before .before .before .before .before .before .before .before .args in
-    omega (arith, searchable (a .line) (stateOf (a .graph) (a .nodes-x .now) (a .nodes-y .now) (a .nodes-z .now) (a .nodes-degree .now) (a .nodes-marked .now) (a .edges-line .now) (a .edges-line-id .now) (a .dir-edges-src .now) (a .dir-edges-dst .now) (a .dir-edges-marked .now) (a .nodes-outgoing .now)) (c .before .before .before .before .before .before .before .before .before .before .before .before .before .before .before .before .before .before .before .before .before .before .before .before .before .before .before .before .before .before .before .before .before .before .before .before .before .before .before .before .before .before .before .before .before .before .before .before .before .before .before .before .before .before .before .before .before .before .before .before .before .before .before .before .before .before .before .before .before .before .before .before .before .pre .0) .fewEdges)
+    omega (arith, searchable (stateOf (a .graph) (a .nodes-x .now) (a .nodes-y .now) (a .nodes-z .now) (a .nodes-degree .now) (a .nodes-marked .now) (a .edges-line .now) (a .edges-line-id .now) (a .dir-edges-src .now) (a .dir-edges-dst .now) (a .dir-edges-marked .now) (a .nodes-outgoing .now)) (c .before .before .before .before .before .before .before .before .before .before .before .before .before .before .before .before .before .before .before .before .before .before .before .before .before .before .before .before .before .before .before .before .before .before .before .before .before .before .before .before .before .before .before .before .before .before .before .before .before .before .before .before .before .before .before .before .before .before .before .before .before .before .before .before .before .before .before .before .before .before .before .before .before .pre .0) .fewEdges)
 
 -- src/grow.rt:116:9
 mul-enter-halves-2 : tie.Need-mul-enter-halves-2

@@ -7,12 +7,12 @@ use Rattle.segment_file.specs.Record.{readOf}
 use Rattle.geometry.specs.Reply.{refused}
 use Rattle.intake.specs.Taking.{taken, takeRecord}
 use borrow.Author.Needs.{needs}
-use Rattle.intake.proofs.take_record.Statement.{statement}
-use Rattle.intake.proofs.take_record.Tie as tie
+use Rattle.intake.proofs.chained.take_record.Statement.{statement}
+use Rattle.intake.proofs.chained.take_record.Tie as tie
 
 -- the entry, from the place where the record was read
 abbrev entry : tie.After-read-record → tie.Start
-entry c = c .before .before .before .before .before .before .before .before .before .before .before .before .before
+entry c = c .before .before .before .before .before .before .before .before .before .before .before .before .before .before .before
 
 -- the state that the tables held
 abbrev held : tie.Start → State
@@ -25,8 +25,8 @@ read-record-requires c κs = search needs
 enum-known-line : tie.Need-enum-known-line
 enum-known-line c = search needs
 
-add-core-requires : tie.Need-add-core-requires
-add-core-requires c κs = entry (c .before .before .before .before .before .before .before .before .before .before .before .before .before .before) .pre
+add-chained-requires : tie.Need-add-chained-requires
+add-chained-requires c κs = entry (c .before .before .before .before .before .before .before .before .before .before .before .before .before .before .before .before) .pre
 
 taken-reply-requires : tie.Need-taken-reply-requires
 taken-reply-requires c κs = search needs
@@ -73,24 +73,36 @@ same-length-10 c = search needs
 same-length-11 : tie.Need-same-length-11
 same-length-11 c = search needs
 
+same-length-12 : tie.Need-same-length-12
+same-length-12 c = search needs
+
+same-length-13 : tie.Need-same-length-13
+same-length-13 c = search needs
+
 returns : tie.Need-returns
 returns c =
-    let d = c .before .before .before .before .before .before .before .before .before .before .before .before .before .before .before .before .before .before .before .before .before .before .before .before .before .before .before .before .before .before .before .before .before .before .before .before .before .before .before in
-    let a = c .before .before .before .before .before .before .before .before .before .before .before .before .before .before .before .before .before .before .before .before .before .before .before .before in
-    (λ i. record { reply = c .taken-reply .ensures i; state = a .add-core .ensures 0 .state; lists = record {} })
-    ∙ ap taken (a .add-core .ensures)
-    ∙ ap (λ r. takeRecord limits r (held (entry d))) (sym (ap readOf (c .before .before .before .before .before .before .before .before .before .before .before .before .before .before .before .before .before .before .before .before .before .before .before .before .before .before .before .before .before .before .before .before .before .before .before .before .before .line .given .1)) ∙ d .read-record .ensures)
+    let d = c .before .before .before .before .before .before .before .before .before .before .before .before .before .before .before .before .before .before .before .before .before .before .before .before .before .before .before .before .before .before .before .before .before .before .before .before .before .before .before .before .before .before .before .before .before in
+    let a = c .before .before .before .before .before .before .before .before .before .before .before .before .before .before .before .before .before .before .before .before .before .before .before .before .before .before .before .before in (
+      (λ i. record { reply = c .taken-reply .ensures i; state = a .add-chained .ensures .0 0 .state; lists = record {} })
+          ∙ ap taken (a .add-chained .ensures .0)
+          ∙ ap (λ r. takeRecord limits r (held (entry d))) (sym (ap readOf (c .before .before .before .before .before .before .before .before .before .before .before .before .before .before .before .before .before .before .before .before .before .before .before .before .before .before .before .before .before .before .before .before .before .before .before .before .before .before .before .before .before .before .before .line .given .1)) ∙ d .read-record .ensures),
+      a .add-chained .ensures .1,
+    )
 
 returns-2 : tie.Need-returns-2
 returns-2 c =
-    let d = c .before .before .before .before in
-    (λ i. record { reply = refused (c .file-number .ensures i); state = held (entry d); lists = record {} })
-    ∙ ap (λ r. takeRecord limits r (held (entry d))) (sym (ap readOf (c .before .before .why .given .1)) ∙ d .read-record .ensures)
+    let d = c .before .before .before .before in (
+      (λ i. record { reply = refused (c .file-number .ensures i); state = held (entry d); lists = record {} })
+          ∙ ap (λ r. takeRecord limits r (held (entry d))) (sym (ap readOf (c .before .before .why .given .1)) ∙ d .read-record .ensures),
+      entry d .pre .1,
+    )
 
 returns-3 : tie.Need-returns-3
 returns-3 c =
-    let d = c .before .before in
-    ap (λ r. takeRecord limits r (held (entry d))) (sym (ap readOf (c .enum-told .given .1)) ∙ d .read-record .ensures)
+    let d = c .before .before in (
+      ap (λ r. takeRecord limits r (held (entry d))) (sym (ap readOf (c .enum-told .given .1)) ∙ d .read-record .ensures),
+      entry d .pre .1,
+    )
 
 pub take-record-spec : {M : Type 1} → statement M
 take-record-spec =
@@ -98,7 +110,7 @@ take-record-spec =
     (tie.spec
     read-record-requires
     enum-known-line
-    add-core-requires
+    add-chained-requires
     taken-reply-requires
     enum-known-why
     file-number-requires
@@ -114,6 +126,8 @@ take-record-spec =
     same-length-9
     same-length-10
     same-length-11
+    same-length-12
+    same-length-13
     returns
     returns-2
     returns-3)

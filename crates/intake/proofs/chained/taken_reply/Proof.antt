@@ -4,8 +4,8 @@ use Rattle.geometry.specs.Reply.{refused}
 use Rattle.adding.specs.Outcomes.{replyOf}
 use Rattle.intake.specs.Taking.{alone}
 use borrow.Author.Needs.{needs}
-use Rattle.intake.proofs.taken_reply.Statement.{statement}
-use Rattle.intake.proofs.taken_reply.Tie as tie
+use Rattle.intake.proofs.chained.taken_reply.Statement.{statement}
+use Rattle.intake.proofs.chained.taken_reply.Tie as tie
 
 enum-told : tie.Need-enum-told
 enum-told c = search needs
