@@ -24,7 +24,7 @@ pub record Keeps {A L : Type 0} (s : State) (lists : L) (o : Outcome A L) : Type
 
 module _ {A L : Type 0} (s : State) (lists : L) where
   -- a success is no refusal
-  success-keeps : (o : Outcome A L) (a : A) → o .reply ≡ success a → Keeps s lists o
+  pub success-keeps : (o : Outcome A L) (a : A) → o .reply ≡ success a → Keeps s lists o
   success-keeps o a e = record { unchanged = λ n q. absurd (never n (sym e ∙ q)) }
     where
       never : (n : ℕ) → success a ≡ refused n → ⊥
@@ -36,7 +36,7 @@ module _ {A L : Type 0} (s : State) (lists : L) where
   demand-keeps false n o k = record { unchanged = λ m e. (refl, refl) }
 
   -- so do the three tests of a stage step
-  step-keeps : (l : Limits) (stage : ℕ) (o : Outcome A L) → Keeps s lists o → Keeps s lists (step l stage s lists o)
+  pub step-keeps : (l : Limits) (stage : ℕ) (o : Outcome A L) → Keeps s lists o → Keeps s lists (step l stage s lists o)
   step-keeps l stage o k = demand-keeps (roomy l s) 6 _ (demand-keeps (sound l s) 7 _ (demand-keeps (eqb (s .stage) stage) 5 o k))
 
   -- one of two outcomes

@@ -13,6 +13,8 @@ mod sort;
 pub use add::add_line;
 pub use adding::AddReply;
 pub use adding::Added;
+pub use checks::Checked;
+pub use checks::check_stage;
 pub use creating::create;
 pub use cut::delete_cut_edges;
 pub use cycles::Census;
