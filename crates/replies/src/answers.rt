@@ -6,13 +6,16 @@ ghost use mathlib.Core.List.{[], _∷_};
 ghost use lib.ListN.{length};
 ghost use Rattle.lists.specs.Lists.{over};
 ghost use Rattle.adding.specs.Outcomes.{replyOf};
+ghost use Rattle.file_entry.specs.Replies.{fileReply};
 ghost use Rattle.planar_graph.specs.Replies.{createdReply, createdGraph, stepReply, pruneReply, cutReply, ringReply};
 ghost use Rattle.replies.specs.Lent.{numberOf, valuesAfter, SmallAfter, graphIn};
-ghost use Rattle.replies.specs.Values.{addedValues, countValue, cutValues, ringValues};
+ghost use Rattle.replies.specs.Values.{addedValues, fileValues, countValue, cutValues, ringValues};
 use crate::small::flag;
 use crate::small::refusal_number;
 use crate::small::write_census;
 use crate::small::write_state;
+use file_entry::FileAdded;
+use file_entry::FileReply;
 use planar_graph::AddReply;
 use planar_graph::Added;
 use planar_graph::Created;
@@ -82,6 +85,26 @@ pub fn answer_added(state: &mut [u16], reply: &mut [u16], done: Added) -> u32
         }
         AddReply::Old(edge) => {
             write_added(reply, edge, false);
+            write_state(state, graph);
+            0
+        }
+    }
+}
+
+// How many records were taken, and the number of what ended it.
+pub fn answer_records(state: &mut [u16], reply: &mut [u64], done: FileAdded) -> u32
+    requires { ⌜ (3 ≤ length (now state)) × (2 ≤ length (now reply)) ⌝ }
+    ensures number { λ r. ⌜ r ≡ numberOf (fileReply (done .reply)) ⌝ }
+    ensures small { λ _. ⌜ SmallAfter (fileReply (done .reply)) (done .graph) (now (state .entry)) (now (state .exit)) ⌝ }
+    ensures values { λ _. ⌜ now (reply .exit) ≡ valuesAfter fileValues (fileReply (done .reply)) (now (reply .entry)) ⌝ }
+{
+    let answer = done.reply;
+    let graph = done.graph;
+    match answer {
+        FileReply::Refused(why) => refusal_number(why),
+        FileReply::Taken(count, number) => {
+            reply[0] = count as u64;
+            reply[1] = number;
             write_state(state, graph);
             0
         }

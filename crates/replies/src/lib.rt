@@ -7,6 +7,7 @@ pub use answers::answer_added;
 pub use answers::answer_created;
 pub use answers::answer_cutting;
 pub use answers::answer_pruned;
+pub use answers::answer_records;
 pub use answers::answer_rings;
 pub use answers::answer_step;
 pub use small::CENSUS_LENGTH;

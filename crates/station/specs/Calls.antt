@@ -7,8 +7,9 @@ use Rattle.rules.specs.State.{State}
 use Rattle.rules.specs.Adding.{Nothing, add}
 use Rattle.rules.specs.Stages.{create, sort, pruneStep, cutStep, reset}
 use Rattle.rules.specs.Ringing.{RingLists, ringStep}
+use Rattle.file_entry.specs.FileAdding.{addRecords}
 use Rattle.replies.specs.Lent.{Left, asked}
-use Rattle.replies.specs.Values.{noValues, addedValues, countValue, cutValues, ringValues}
+use Rattle.replies.specs.Values.{noValues, addedValues, fileValues, countValue, cutValues, ringValues}
 
 -- where no list is lent
 abbrev pub none : Nothing
@@ -19,6 +20,9 @@ created small s = asked 0 noValues small s none [] (create limits s)
 
 abbrev pub added : Line3D → List ℕ → State → List ℕ → Left Nothing
 added line small s reply = asked 2 addedValues small s none reply (add limits line s)
+
+abbrev pub recordsAdded : List ℕ → List ℕ → State → List ℕ → Left Nothing
+recordsAdded bytes small s reply = asked 2 fileValues small s none reply (addRecords limits bytes s)
 
 abbrev pub sorted : List ℕ → State → Left Nothing
 sorted small s = asked 0 noValues small s none [] (sort limits s)

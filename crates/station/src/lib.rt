@@ -7,6 +7,7 @@ mod cut;
 mod extract;
 mod prune;
 mod questions;
+mod records;
 mod reset;
 mod sort;
 
@@ -18,5 +19,6 @@ pub use prune::tukmiheb_prune_dangles;
 pub use questions::tukmiheb_compare_angular;
 pub use questions::tukmiheb_minimum_rotation_index;
 pub use questions::tukmiheb_read_record;
+pub use records::tukmiheb_add_records;
 pub use reset::tukmiheb_reset;
 pub use sort::tukmiheb_sort_edges;
