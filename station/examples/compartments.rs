@@ -4,7 +4,7 @@
 
 use std::error::Error;
 use std::io::{self, Read};
-use tukmiheb::{segments, Graph, Refusal};
+use tukmiheb::{Graph, Refusal};
 
 /// A compartment of the map.
 struct Compartment {
@@ -16,9 +16,7 @@ struct Compartment {
 /// The compartments of a trace, or why it is refused.
 fn compartments(bytes: &[u8]) -> Result<Vec<Compartment>, Refusal> {
     let mut graph = Graph::new();
-    for segment in segments(bytes) {
-        graph.add_line(&segment?)?;
-    }
+    graph.add_records(bytes)?.whole()?;
     graph.sort_edges()?;
     graph.prune_dangles()?;
     graph.delete_cut_edges()?;

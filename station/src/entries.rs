@@ -122,6 +122,24 @@ pub fn add_line(
     )
 }
 
+/// Adds the records of a segment file, up to its end or to the first that is refused. `reply` gets how
+/// many were taken, and the number of what ended it: 0 at the end, else that of the refusal. The
+/// records before a refused one stay added, so the call itself succeeds there.
+pub fn add_records(
+    state: &mut [u16],
+    bytes: &[u8],
+    tables: &mut Tables,
+    reply: &mut [u64],
+) -> Result<(), Refusal> {
+    lend!(
+        tukmiheb_add_records,
+        state,
+        [bytes.as_ptr(), bytes.len()],
+        tables,
+        [reply.as_mut_ptr(), reply.len()]
+    )
+}
+
 /// Puts every star in angular order: stage 0 to 1.
 pub fn sort_edges(state: &mut [u16], tables: &mut Tables) -> Result<(), Refusal> {
     lend!(tukmiheb_sort_edges, state, [], tables, [])

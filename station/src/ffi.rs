@@ -52,6 +52,12 @@ graph_entry!(tukmiheb_add_line(
     reply: *mut u16,
     reply_length: usize
 ));
+graph_entry!(tukmiheb_add_records(
+    bytes: *const u8,
+    bytes_length: usize;
+    reply: *mut u64,
+    reply_length: usize
+));
 graph_entry!(tukmiheb_sort_edges(;));
 graph_entry!(tukmiheb_prune_dangles(;
     dangles: *mut u16,

@@ -77,6 +77,24 @@ pub struct Added {
     pub new: bool,
 }
 
+/// What adding a segment file came to: how many records were taken, and the refusal of the one after
+/// them, if that ended it.
+#[derive(Clone, Copy, Debug, PartialEq, Eq)]
+pub struct Records {
+    pub taken: usize,
+    pub stopped: Option<Refusal>,
+}
+
+impl Records {
+    /// How many records the file has, or why the first bad one is refused.
+    pub fn whole(self) -> Result<usize, Refusal> {
+        match self.stopped {
+            None => Ok(self.taken),
+            Some(refusal) => Err(refusal),
+        }
+    }
+}
+
 /// The nodes, edges, maximal rings and pieces that are left in a graph, and whether they meet
 /// Euler's formula: nodes - edges + cycles = 2 x pieces.
 #[derive(Clone, Copy, Debug, PartialEq, Eq)]
@@ -242,6 +260,20 @@ impl Graph {
         Ok(Added {
             edge: EdgeId(reply[0]),
             new: reply[1] == 1,
+        })
+    }
+
+    /// Adds the segments of a file (stage `Building`), up to its end or to the first record that is
+    /// refused. The segments before that record stay added: [`Records`] says how many, and why it
+    /// is refused. This tests the tables once, where a call of `add_line` for each segment tests
+    /// them for each.
+    pub fn add_records(&mut self, bytes: &[u8]) -> Result<Records, Refusal> {
+        let mut reply = [0; 2];
+        entries::add_records(&mut self.state, bytes, &mut self.tables.lend(), &mut reply)?;
+        let [taken, number] = reply;
+        Ok(Records {
+            taken: taken as usize,
+            stopped: Refusal::from_number(number as u32),
         })
     }
 

@@ -23,6 +23,17 @@
 //! let trace = [0, 1, 2].map(|k| Line3D::new(corners[k], corners[(k + 1) % 3], k as u32));
 //! assert_eq!(areas(&trace), Ok(vec![6.0]));
 //! ```
+//!
+//! A segment file is added in one call:
+//!
+//! ```
+//! use tukmiheb::{Graph, Refusal};
+//!
+//! let mut graph = Graph::new();
+//! let records = graph.add_records(&[54, 0, 0])?;
+//! assert_eq!((records.taken, records.stopped), (0, Some(Refusal::RecordShort)));
+//! # Ok::<(), Refusal>(())
+//! ```
 
 pub mod entries;
 mod ffi;
@@ -31,8 +42,8 @@ mod refusal;
 mod rings;
 mod segment_file;
 
-pub use graph::Stage;
-pub use graph::{Added, Census, Coord3D, Cuts, DirEdgeId, EdgeId, FaceId, Graph, Line3D, NodeId};
+pub use graph::{Added, Census, Cuts, Graph, Records, Stage};
+pub use graph::{Coord3D, DirEdgeId, EdgeId, FaceId, Line3D, NodeId};
 pub use refusal::Refusal;
 pub use rings::{Ring, Rings, Side};
 pub use segment_file::{segments, Segments};

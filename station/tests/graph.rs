@@ -1,7 +1,8 @@
 //! The wrapper: what it hands out is what the library answered.
 
 use tukmiheb::{
-    segments, Coord3D, DirEdgeId, EdgeId, FaceId, Graph, Line3D, NodeId, Refusal, Side, Stage,
+    segments, Coord3D, DirEdgeId, EdgeId, FaceId, Graph, Line3D, NodeId, Records, Refusal, Side,
+    Stage,
 };
 
 fn line(x1: i32, y1: i32, x2: i32, y2: i32, line_id: u32) -> Line3D {
@@ -95,14 +96,19 @@ fn reset_and_clear() {
     assert_eq!((graph.node_count(), graph.edge_count()), (0, 0));
 }
 
-#[test]
-fn segment_files() {
+fn record(values: [f64; 6], line_id: u32) -> Vec<u8> {
     let mut bytes = Vec::from(54u32.to_le_bytes());
     bytes.extend([1, 0]);
-    bytes.extend(7u32.to_le_bytes());
-    for value in [0.0f64, -0.0, 1.5, 4.0, 3.0, f64::INFINITY] {
+    bytes.extend(line_id.to_le_bytes());
+    for value in values {
         bytes.extend(value.to_le_bytes());
     }
+    bytes
+}
+
+#[test]
+fn segment_files() {
+    let mut bytes = record([0.0, -0.0, 1.5, 4.0, 3.0, f64::INFINITY], 7);
     let read: Vec<_> = segments(&bytes).collect();
     let start = Coord3D::new(0.0, -0.0, 1.5);
     let end = Coord3D::new(4.0, 3.0, f64::INFINITY);
@@ -114,6 +120,36 @@ fn segment_files() {
     assert_eq!(refused(&bytes), Refusal::RecordKind);
     bytes[0] = 53;
     assert_eq!(refused(&bytes), Refusal::RecordLength);
+}
+
+#[test]
+fn records_of_a_file() {
+    let traced_lines = [[0, 0, 4, 0], [4, 0, 0, 3], [0, 3, 0, 0], [4, 0, 6, 0]];
+    let records = traced_lines.into_iter().zip(1..).map(|(ends, id)| {
+        let [x1, y1, x2, y2] = ends.map(f64::from);
+        record([x1, y1, 0.0, x2, y2, 0.0], id)
+    });
+    let bytes: Vec<u8> = records.flatten().collect();
+    let mut graph = Graph::new();
+    let added = graph.add_records(&bytes).expect("stage 0");
+    let (taken, stopped) = (4, None);
+    assert_eq!(added, Records { taken, stopped });
+    assert_eq!(added.whole(), Ok(4));
+    assert_eq!(format!("{graph:?}"), format!("{:?}", traced()));
+
+    // The records before a bad one stay added.
+    let mut graph = Graph::new();
+    let added = graph.add_records(&bytes[..200]).expect("stage 0");
+    let (taken, stopped) = (3, Some(Refusal::RecordShort));
+    assert_eq!(added, Records { taken, stopped });
+    assert_eq!(added.whole(), Err(Refusal::RecordShort));
+    assert_eq!((graph.node_count(), graph.edge_count()), (3, 3));
+
+    // A refusal of the call adds nothing.
+    graph.sort_edges().expect("stage 0");
+    let before = format!("{graph:?}");
+    assert_eq!(graph.add_records(&bytes), Err(Refusal::WrongStage));
+    assert_eq!(format!("{graph:?}"), before);
 }
 
 #[test]
