@@ -122,7 +122,7 @@ fn difference(replies: [Reply; 2], library: &Library, oracle: &Oracle) -> Option
 }
 
 /// Tables and lists that hold other things in every entry, none of them a sound value.
-fn filled() -> State {
+pub fn filled() -> State {
     let mut state = State::default();
     let float = |place: usize| f64::from_bits(0x7ff0_0000_0000_0001 + place as u64);
     let floats = |table: &mut Vec<f64>| {

@@ -177,6 +177,7 @@ fn short_slices() {
         entries::add_line(small, &line, 1, tables, &mut [0; 2]),
         short
     );
+    assert_eq!(entries::add_records(small, &[], tables, &mut [0; 2]), short);
     assert_eq!(entries::sort_edges(small, tables), short);
     assert_eq!(
         entries::prune_dangles(small, tables, &mut listed, &mut [0]),
@@ -196,6 +197,10 @@ fn short_slices() {
     let small = &mut [0; 3];
     assert_eq!(
         entries::add_line(small, &line, 1, tables, &mut [0; 1]),
+        no_room
+    );
+    assert_eq!(
+        entries::add_records(small, &[], tables, &mut [0; 1]),
         no_room
     );
     assert_eq!(

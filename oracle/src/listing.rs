@@ -1,8 +1,8 @@
 //! The listing of a segment file.
 
-use crate::original::Line3D;
+use crate::original::{steps, Line3D, PlanarGraph};
 use crate::rules::{self, Refusal};
-use crate::state::{Call, Lent, Reply, Side, State};
+use crate::state::{Call, Lent, Reply, Side};
 use std::fmt::Write;
 
 /// What the listing program prints of a file's bytes.
@@ -11,6 +11,33 @@ pub fn listing(bytes: &[u8], side: &mut impl Side) -> String {
         Ok(()) => extracted(side),
         Err((number, record)) => format!("refused {number} record {record}\n"),
     }
+}
+
+/// The same of a file whose records are all good, by the original's methods alone: nothing is tested
+/// and no table is kept beside the graph. For timing.
+pub fn original_listing(bytes: &[u8]) -> String {
+    let mut graph = PlanarGraph::new();
+    for line in records(bytes) {
+        graph.add_line(line.expect("a good record"));
+    }
+    graph.sort_edges();
+    let dangles = steps::prune(&mut graph).len();
+    let (cuts, _) = steps::cut(&mut graph);
+    let (rings, census) = steps::rings(&mut graph);
+    let counts = [
+        graph.nodes_x.len(),
+        graph.edges.len(),
+        dangles,
+        cuts.len(),
+        rings.len(),
+    ];
+    let mut out = head(counts, census.verdict);
+    for (number, ring) in rings.iter().enumerate() {
+        let sources = ring.half_edges.iter();
+        let nodes = sources.map(|&half| graph.directed_edges[half].src);
+        put_ring(number, ring.face, ring.area, nodes, &mut out);
+    }
+    out
 }
 
 /// The segments of a file up to its end or to the first record that is refused.
@@ -57,38 +84,54 @@ fn add_records(bytes: &[u8], side: &mut impl Side) -> Result<(), (u32, usize)> {
 
 /// Runs the stage steps and prints what came out.
 fn extracted(side: &mut impl Side) -> String {
-    let mut counts = [0, 0, 0];
-    let mut euler = "no";
+    let mut listed = [0, 0, 0];
+    let mut euler = false;
     for call in [Call::Sort, Call::Prune, Call::Cut, Call::Rings] {
         match side.call(&call, &Lent::FULL) {
-            Reply::Dangles(count) => counts[0] = count,
-            Reply::Cuts(count, _) => counts[1] = count,
+            Reply::Dangles(count) => listed[0] = count.into(),
+            Reply::Cuts(count, _) => listed[1] = count.into(),
             Reply::Rings(count, census) => {
-                counts[2] = count;
-                euler = if census.verdict { "yes" } else { "no" };
+                listed[2] = count.into();
+                euler = census.verdict;
             }
             _ => {}
         }
     }
     let state = side.state();
-    let (nodes, edges, [dangles, cuts, rings]) = (state.nodes, state.edges, counts);
-    let mut out = format!(
-        "nodes {nodes} edges {edges} dangles {dangles} cuts {cuts} rings {rings} euler {euler}\n"
-    );
-    for ring in 0..usize::from(rings) {
-        put_ring(ring, state, &mut out);
+    let [dangles, cuts, rings] = listed;
+    let counts = [state.nodes.into(), state.edges.into(), dangles, cuts, rings];
+    let mut out = head(counts, euler);
+    for ring in 0..rings {
+        let lists = &state.lists;
+        let first = usize::from(lists.ring_first[ring]);
+        let half_edges = &lists.half_edges[first..first + usize::from(lists.ring_length[ring])];
+        let sources = half_edges.iter();
+        let nodes = sources.map(|&half| state.tables.dir_edges_src[usize::from(half)].into());
+        let (face, area) = (lists.ring_face[ring].into(), lists.ring_area[ring]);
+        put_ring(ring, face, area, nodes, &mut out);
     }
     out
 }
 
-fn put_ring(ring: usize, state: &State, out: &mut String) {
-    let (lists, tables) = (&state.lists, &state.tables);
-    let first = usize::from(lists.ring_first[ring]);
-    let half_edges = &lists.half_edges[first..first + usize::from(lists.ring_length[ring])];
-    let (face, doubled) = (lists.ring_face[ring], 2.0 * lists.ring_area[ring]);
+/// Line one.
+fn head([nodes, edges, dangles, cuts, rings]: [usize; 5], euler: bool) -> String {
+    let euler = if euler { "yes" } else { "no" };
+    format!(
+        "nodes {nodes} edges {edges} dangles {dangles} cuts {cuts} rings {rings} euler {euler}\n"
+    )
+}
+
+fn put_ring(
+    ring: usize,
+    face: usize,
+    area: f64,
+    nodes: impl Iterator<Item = usize>,
+    out: &mut String,
+) {
+    let doubled = 2.0 * area;
     let _ = write!(out, "ring {ring} face {face} doubled {doubled} nodes");
-    for &half_edge in half_edges {
-        let _ = write!(out, " {}", tables.dir_edges_src[usize::from(half_edge)]);
+    for node in nodes {
+        let _ = write!(out, " {node}");
     }
     out.push('\n');
 }

@@ -1,4 +1,5 @@
-//! `oracle calls < list` answers a call list; `oracle listing < file` lists a segment file.
+//! `oracle calls < list` answers a call list; `oracle listing < file` lists a segment file, and
+//! `oracle original < file` one without a bad record, by the original's methods alone.
 
 use oracle::{calls, listing, Oracle};
 use std::io::{self, Read, Write};
@@ -31,7 +32,14 @@ fn run(command: Option<&str>) -> Result<(), String> {
             read()?;
             listing::listing(&bytes, &mut oracle)
         }
-        _ => return Err("oracle calls < list | oracle listing < file".to_string()),
+        Some("original") => {
+            read()?;
+            listing::original_listing(&bytes)
+        }
+        _ => {
+            let usage = "oracle calls < list | oracle listing < file | oracle original < file";
+            return Err(usage.to_string());
+        }
     };
     let written = io::stdout().write_all(printed.as_bytes());
     written.map_err(|why| format!("cannot write: {why}"))

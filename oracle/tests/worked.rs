@@ -60,6 +60,7 @@ fn p4_listing() {
                     ring 0 face 1 doubled 12 nodes 0 1 2\n\
                     ring 1 face 0 doubled -12 nodes 1 0 2\n";
     assert_eq!(listed(&bytes), expected);
+    assert_eq!(listing::original_listing(&bytes), expected);
     assert_eq!(listed(&bytes[..200]), "refused 9 record 3\n");
     let mut other = bytes.clone();
     other[58] = 53;

@@ -1,0 +1,210 @@
+//! A segment file in one call of the library, beside the oracle that adds its records one by one: how
+//! many were taken, what ended it, the counts and the stage, and every entry of every table.
+
+use comparison::inputs::{self, Segment, BOUND, STEPS};
+use comparison::random::Random;
+use oracle::listing;
+use oracle::original::Line3D;
+use oracle::state::{Call, Lent, Reply, Side, State};
+use oracle::Oracle;
+use tukmiheb::entries;
+
+/// How many records were taken and the number of what ended it, or the refusal of the call.
+type Answer = Result<[u64; 2], u32>;
+
+fn add_file(state: &mut State, bytes: &[u8], lent: &Lent) -> Answer {
+    const UNWRITTEN: [u64; 2] = [u64::MAX; 2];
+    let mut small = [state.nodes, state.edges, state.stage];
+    let mut reply = UNWRITTEN;
+    let mut tables = comparison::lend(&mut state.tables, lent);
+    let answered = entries::add_records(&mut small, bytes, &mut tables, &mut reply);
+    [state.nodes, state.edges, state.stage] = small;
+    match answered {
+        Ok(()) => Ok(reply),
+        Err(refusal) => {
+            assert_eq!(reply, UNWRITTEN);
+            Err(refusal.number())
+        }
+    }
+}
+
+fn add_lines(oracle: &mut Oracle, bytes: &[u8], lent: &Lent) -> Answer {
+    // Sorting makes the same tests of the state: 6, 7 and 5, with stage 0.
+    let mut sorting = Oracle::over(oracle.state().clone());
+    if let Reply::Refused(number) = sorting.call(&Call::Sort, lent) {
+        return Err(number);
+    }
+    let mut taken = 0;
+    for line in listing::records(bytes) {
+        let refused = match line.map(|line| oracle.call(&Call::Add(line), lent)) {
+            Err(refusal) => refusal.number(),
+            Ok(Reply::Refused(number)) => number,
+            Ok(_) => {
+                taken += 1;
+                continue;
+            }
+        };
+        return Ok([taken, refused.into()]);
+    }
+    Ok([taken, 0])
+}
+
+/// The answer of both sides to a file, and the state that they leave.
+fn compare(state: &State, bytes: &[u8], lent: &Lent) -> (Answer, State) {
+    let mut library = state.clone();
+    let mut oracle = Oracle::over(state.clone());
+    let answer = add_file(&mut library, bytes, lent);
+    assert_eq!(answer, add_lines(&mut oracle, bytes, lent), "{bytes:?}");
+    assert_eq!(library.difference(oracle.state()), None, "{bytes:?}");
+    if answer.is_err() {
+        assert_eq!(library.difference(state), None, "{bytes:?}");
+    }
+    (answer, library)
+}
+
+/// An empty graph over tables that hold other things.
+fn empty() -> State {
+    let mut state = comparison::filled();
+    [state.nodes, state.edges, state.stage] = [0; 3];
+    state
+}
+
+fn records(lines: impl IntoIterator<Item = Line3D>) -> Vec<u8> {
+    lines
+        .into_iter()
+        .flat_map(|line| listing::record(&line))
+        .collect()
+}
+
+fn file(map: &[Segment]) -> Vec<u8> {
+    records(
+        map.iter()
+            .zip(1..)
+            .map(|(&segment, id)| inputs::segment_line(segment, id)),
+    )
+}
+
+/// A line that may be bad. The bits of a NaN are not kept from a file, so z is none here.
+fn any_line(random: &mut Random) -> Line3D {
+    let mut line = inputs::any_line(4, random);
+    for z in [&mut line.start.z, &mut line.end.z] {
+        *z = if z.is_nan() { -1.5 } else { *z };
+    }
+    line
+}
+
+#[test]
+fn maps() {
+    let mut random = Random::new(12);
+    for map in [
+        Vec::new(),
+        inputs::grid(22, 22, 1),
+        inputs::complete(46),
+        inputs::star(1023),
+        inputs::star(1024),
+        inputs::path(1024),
+        inputs::overlaps(40),
+        inputs::extremes(),
+        inputs::random_map(1200, 60, 8, &mut random),
+        inputs::random_map(1100, 900, BOUND, &mut random),
+    ] {
+        let turned = map.iter().map(|&[a, b]| [b, a]);
+        let twice: Vec<_> = map.iter().copied().chain(turned).collect();
+        for map in [map, twice] {
+            let (answer, _) = compare(&empty(), &file(&map), &Lent::FULL);
+            assert!(answer.is_ok(), "an empty graph");
+        }
+    }
+}
+
+#[test]
+fn repeats_and_the_end() {
+    let map = inputs::grid(3, 2, 5);
+    let (answer, state) = compare(&empty(), &file(&map.repeat(40)), &Lent::FULL);
+    assert_eq!(answer, Ok([17 * 40, 0]));
+    assert_eq!((state.nodes, state.edges), (12, 17));
+    let (answer, same) = compare(&state, &[], &Lent::FULL);
+    assert_eq!(answer, Ok([0, 0]));
+    assert_eq!(same.difference(&state), None);
+}
+
+/// The file with one record replaced, so that the records before it are taken.
+fn stopped(good: &[Segment], bad: &[u8]) -> u64 {
+    let bytes = [file(good).as_slice(), bad].concat();
+    let (answer, _) = compare(&empty(), &bytes, &Lent::FULL);
+    let [taken, number] = answer.expect("an empty graph");
+    assert_eq!(taken, good.len() as u64);
+    number
+}
+
+#[test]
+fn bad_records() {
+    let separate: Vec<Segment> = (0..512).map(|x| [[x, 0], [x, 1]]).collect();
+    let dense = &inputs::complete(46)[..1024];
+    let far = file(&[[[BOUND - 1, 5], [BOUND, 7]]]);
+    let good = file(&[[[1, 0], [0, 1]]]);
+    assert_eq!(stopped(&separate, &far), 3);
+    assert_eq!(stopped(dense, &[far.as_slice(), &good].concat()), 4);
+    for few in [&separate[..0], &separate[..3], &dense[..200]] {
+        assert_eq!(stopped(few, &file(&[[[BOUND + 1, 0], [0, 0]]])), 1);
+        assert_eq!(stopped(few, &file(&[[[7, 7], [7, 7]]])), 2);
+        assert_eq!(stopped(few, &good[..57]), 9);
+        assert_eq!(stopped(few, &good[..1]), 9);
+        for (place, value, number) in [(0, 53, 10), (3, 1, 10), (4, 2, 11), (5, 1, 11)] {
+            let mut bad = good.clone();
+            bad[place] = value;
+            assert_eq!(stopped(few, &bad), number);
+            assert_eq!(stopped(few, &[bad, good.clone()].concat()), number);
+        }
+    }
+}
+
+#[test]
+fn refused_calls() {
+    let lines = file(&inputs::grid(2, 2, 1));
+    let (_, built) = compare(&empty(), &lines, &Lent::FULL);
+    for bytes in [&lines[..], &lines[..50], &[]] {
+        for table in 0..11 {
+            let lent = Lent {
+                short: Some(table),
+                ..Lent::FULL
+            };
+            assert_eq!(compare(&built, bytes, &lent).0, Err(6));
+        }
+        let mut damaged = built.clone();
+        damaged.tables.nodes_degree[3] += 1;
+        assert_eq!(compare(&damaged, bytes, &Lent::FULL).0, Err(7));
+        let mut steps = Oracle::over(built.clone());
+        for step in STEPS {
+            steps.call(&step, &Lent::FULL);
+            assert_eq!(compare(steps.state(), bytes, &Lent::FULL).0, Err(5));
+        }
+    }
+}
+
+/// Files of any lines, one after another on the same graph, cut off or with a head that is changed.
+#[test]
+fn any_files() {
+    let mut random = Random::new(13);
+    let mut numbers = [0; 12];
+    for _ in 0..3000 {
+        let mut state = empty();
+        for _ in 0..3 {
+            let count = random.below(12);
+            let mut bytes = records((0..count).map(|_| any_line(&mut random)));
+            if count > 0 && random.once_in(4) {
+                let place = 58 * random.below(count) + random.below(6);
+                bytes[place] = random.bits() as u8;
+            }
+            if random.once_in(4) {
+                bytes.truncate(random.below(bytes.len() + 1));
+            }
+            let (answer, after) = compare(&state, &bytes, &Lent::FULL);
+            let [_, number] = answer.expect("a graph in stage 0");
+            numbers[number as usize] += 1;
+            state = after;
+        }
+    }
+    println!("{numbers:?}");
+    assert!([0, 1, 2, 9, 10, 11].iter().all(|&n| numbers[n] > 50));
+}
