@@ -4,7 +4,7 @@ use mathlib.Core.List.{List}
 use Rattle.geometry.specs.Reply.{Reply, refused, success}
 use Rattle.rules.specs.Limits.{Limits}
 use Rattle.rules.specs.State.{State, roomy, sound}
-use Rattle.rules.specs.Adding.{Outcome, Nothing}
+use Rattle.rules.specs.Adding.{Outcome, Nothing, add}
 use Rattle.rules.specs.Stages.{step}
 use Rattle.rules.specs.SegmentFile.{Read, readAt}
 use Rattle.intake.specs.Taking.{Taking, takeFrom, endReply, takeFile}
@@ -34,5 +34,5 @@ recordsTaken t = record {
 
 -- 6, 7 and 5, tested once; then the file from its first byte to its end or to its first bad record
 unfoldable pub addRecords : Limits → List ℕ → State → Outcome Records Nothing
-unfolding roomy sound readAt takeFrom
+unfolding roomy sound readAt add takeFrom
 addRecords l bytes s = step l 0 s (record {}) (recordsTaken (takeFile l bytes s))

@@ -1,0 +1,66 @@
+-- Answers that the definition gives by computation: a file, its parts and bad records, and the refusals of the call.
+use Prim.Native.Nat.{ℕ}
+use mathlib.Core.Path.{_≡_, refl}
+use mathlib.Core.Bool.{true}
+use mathlib.Core.List.{List, [], _∷_, _++_}
+use lib.ListN.{take, set, replicate}
+use lib.Ieee.{nan}
+use Rattle.geometry.specs.Reply.{Reply, refused, success}
+use Rattle.rules.specs.Limits.{limits}
+use Rattle.rules.specs.State.{State}
+use Rattle.file_entry.specs.FileAdding.{Records, addRecords}
+
+-- a graph with no node and no edge in a stage, over tables that hold anything; the first table with so many entries
+abbrev empty : ℕ → ℕ → State
+empty stage length = record {
+  nodes = 0;
+  edges = 0;
+  stage = stage;
+  nodeX = replicate length nan;
+  nodeY = replicate 1024 nan;
+  nodeZ = replicate 1024 nan;
+  degree = replicate 1024 7;
+  nodeMark = replicate 1024 true;
+  segment = replicate 6144 nan;
+  lineId = replicate 1024 7;
+  source = replicate 2048 7;
+  target = replicate 2048 7;
+  halfMark = replicate 2048 true;
+  star = replicate 2048 7;
+}
+
+-- the bytes of a record from (0, 0) to a point with y 0: its x is 4.0 or 6.0 by a byte, 16 or 24
+abbrev record-of : ℕ → List ℕ
+record-of byte = 54 ∷ 0 ∷ 0 ∷ 0 ∷ 1 ∷ 0 ∷ 1 ∷ 0 ∷ 0 ∷ 0 ∷ (replicate 30 0 ++ byte ∷ 64 ∷ replicate 16 0)
+
+-- two segments, and the first again
+abbrev file : List ℕ
+file = record-of 16 ++ record-of 24 ++ record-of 16
+
+abbrev answer : List ℕ → State → Reply Records
+answer bytes s = addRecords limits bytes s .reply
+
+abbrev taken : ℕ → ℕ → Reply Records
+taken n number = success (record { taken = n; number = number })
+
+-- the file, none, the file without its last byte, with another length and another kind in record 1, with -0.0 for its first x and 0.0 for the
+-- second; then a stage that is not 0, a stage that is none, and a table too short
+abbrev found : List (Reply Records)
+found =
+    answer file (empty 0 1024)
+    ∷ answer [] (empty 0 1024)
+    ∷ answer (take 173 file) (empty 0 1024)
+    ∷ answer (set file 58 53) (empty 0 1024)
+    ∷ answer (set file 62 2) (empty 0 1024)
+    ∷ answer (set (set (set file 17 128) 40 0) 41 0) (empty 0 1024)
+    ∷ answer file (empty 1 1024)
+    ∷ answer file (empty 5 1024)
+    ∷ answer file (empty 5 1023)
+    ∷ []
+
+abbrev expected : List (Reply Records)
+expected = taken 3 0 ∷ taken 0 0 ∷ taken 2 9 ∷ taken 1 10 ∷ taken 1 11 ∷ taken 0 2 ∷ refused 5 ∷ refused 7 ∷ refused 6 ∷ []
+
+pub as-answered : found ≡ expected
+unfolding addRecords
+as-answered = refl
