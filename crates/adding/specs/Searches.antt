@@ -30,11 +30,6 @@ endsBy nodes u w = record {
   «new_end» = eqb w nodes;
 }
 
--- the same, with the nodes searched for
-abbrev pub endsIn : Line3D → ℕ → List Float → List Float → Ends
-endsIn g nodes xs ys =
-    endsBy nodes (findNodeIn nodes xs ys (keyOf (g .start .x) (g .start .y))) (findNodeIn nodes xs ys (keyOf (g .end .x) (g .end .y)))
-
 -- u, w and h are what the searches find for a line: the nodes of its ends, and the half-edge between them
 pub record Found (g : Line3D) (nodes edges : ℕ) (xs ys : List Float) (source target star : List ℕ) (u w h : ℕ) : Type 0 where
   pub start : u ≡ findNodeIn nodes xs ys (keyOf (g .start .x) (g .start .y))

@@ -42,16 +42,7 @@ pub struct Outcome {
 
 // A refusal's number.
 fn refused(why: Refusal) -> Reply {
-    match why {
-        Refusal::NotWhole => Reply::Refused(1),
-        Refusal::SameNode => Reply::Refused(2),
-        Refusal::TooManyNodes => Reply::Refused(3),
-        Refusal::TooManyEdges => Reply::Refused(4),
-        Refusal::WrongStage => Reply::Refused(5),
-        Refusal::TableTooShort => Reply::Refused(6),
-        Refusal::Unsound => Reply::Refused(7),
-        Refusal::ListTooShort => Reply::Refused(8),
-    }
+    Reply::Refused(intake::refusal_number(why))
 }
 
 // A refusal leaves the graph that was there.

@@ -1,14 +1,13 @@
 -- Codes: where they lie, and that equal keys and equal ends have equal codes.
 use Prim.Native.Nat.{ℕ, _*_, _<_, _≤_}
 use native.Mathlib.Omega.{arith}
-use mathlib.Core.Path.{_≡_, refl, sym, ap, ap₂, _∙_}
+use mathlib.Core.Path.{_≡_, refl, sym, ap₂, _∙_}
 use mathlib.Core.Bool.{Bool, true, false, _&&_}
 use mathlib.Core.List.{List}
 use lib.Dec.{eqb}
 use lib.Ieee.{Float}
 use lib.ListN.{length, getD, take}
 use borrow.Author.Tests.{eqb-true}
-use Rattle.lists.specs.Lists.{firstWhere}
 use Rattle.lists.proofs.Counts.{true-is-false}
 use Rattle.lists.proofs.Searching.{first-pick}
 use Rattle.chains.specs.Chains.{lowestOf}

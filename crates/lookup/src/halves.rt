@@ -1,9 +1,8 @@
 // Half-edges chained by their ends.
 ghost use mathlib.Core.Path.{_≡_};
-ghost use mathlib.Core.Bool.{_&&_};
 ghost use Prim.Native.Nat.{ℕ, _+_, _*_, _<_, _≤_};
-ghost use lib.Dec.{eqb};
 ghost use lib.ListN.{length, getD};
+ghost use Rattle.rules.specs.Limits.{limits};
 ghost use Rattle.adding.specs.Searches.{findHalfIn};
 ghost use Rattle.lookup.specs.Codes.{halfHeads, pairCode};
 ghost use Rattle.lookup.specs.Indexed.{HalvesChained};
@@ -57,7 +56,7 @@ pub fn find_half(
     u: NodeId,
     v: NodeId,
 ) -> DirEdgeId
-    requires { ⌜ (edges ≤ 1024) × HalvesChained (2 * edges) (now «dir_edges_src») (now «dir_edges_dst») (now «nodes_outgoing») (now «half_chains») ⌝ }
+    requires { ⌜ (edges ≤ limits .edges) × HalvesChained (2 * edges) (now «dir_edges_src») (now «dir_edges_dst») (now «nodes_outgoing») (now «half_chains») ⌝ }
     ensures { λ r. ⌜ r .0 ≡ findHalfIn edges (now («dir_edges_src» .entry)) (now («dir_edges_dst» .entry)) (now («nodes_outgoing» .entry)) (u .0) (v .0) ⌝ }
 {
     let from = u.0;

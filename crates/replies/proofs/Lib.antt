@@ -2,3 +2,5 @@
 pub mod Writing
 -- what an answer leaves
 pub mod Replying
+-- numbers of refusals
+pub mod Refusals

@@ -82,14 +82,5 @@ pub fn write_census(reply: &mut [u16], count: u16, census: Census)
 pub fn refusal_number(why: Refusal) -> u32
     ensures { λ r. ⌜ r ≡ refusalNumber why ⌝ }
 {
-    match why {
-        Refusal::NotWhole => 1,
-        Refusal::SameNode => 2,
-        Refusal::TooManyNodes => 3,
-        Refusal::TooManyEdges => 4,
-        Refusal::WrongStage => 5,
-        Refusal::TableTooShort => 6,
-        Refusal::Unsound => 7,
-        Refusal::ListTooShort => 8,
-    }
+    intake::refusal_number(why) as u32
 }

@@ -2,3 +2,5 @@
 pub mod Handing
 -- room for an answer
 pub mod Asking
+-- numbers of a record's refusals
+pub mod FileNumbers

@@ -55,11 +55,7 @@ fn write_record(reply: &mut [u64], line_id: u32, next: usize)
 fn file_number(why: FileRefusal) -> u32
     ensures { λ r. ⌜ r ≡ numberOf why ⌝ }
 {
-    match why {
-        FileRefusal::Short => 9,
-        FileRefusal::Length => 10,
-        FileRefusal::Kind => 11,
-    }
+    intake::file_number(why) as u32
 }
 
 // The record at a place of a segment file. The reply is 1, its line id and the place of the next

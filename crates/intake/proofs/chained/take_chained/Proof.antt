@@ -15,9 +15,6 @@ use Rattle.intake.proofs.Turns.{turn-stops, turn-goes, turns-start, tur
 use borrow.Author.Needs.{needs}
 use Rattle.intake.proofs.chained.take_chained.Statement.{statement}
 use Rattle.intake.proofs.chained.take_chained.Tie as tie
-use Rattle.intake.proofs.chained.take_chained.Reads as reads
-use Rattle.intake.proofs.chained.take_chained.Lts as lts
-use Rattle.intake.proofs.chained.take_record.Reads as take-record-reads
 
 abbrev Inv-loop : tie.InvT-loop
 Inv-loop bytes nodes-x₀ nodes-y₀ nodes-z₀ nodes-degree₀ nodes-marked₀ edges-line₀ edges-line-id₀ dir-edges-src₀ dir-edges-dst₀ dir-edges-marked₀ nodes-outgoing₀ node-chains₀ half-chains₀ whole current₀ count₀ nodes-x nodes-y nodes-z nodes-degree nodes-marked edges-line edges-line-id dir-edges-src dir-edges-dst dir-edges-marked nodes-outgoing node-chains half-chains current count =
@@ -55,77 +52,59 @@ abbrev held : tie.At-loop Inv-loop μ-loop → State
 held c = let q = c .loop in
     stateOf (q .current) (q .nodes-x) (q .nodes-y) (q .nodes-z) (q .nodes-degree) (q .nodes-marked) (q .edges-line) (q .edges-line-id) (q .dir-edges-src) (q .dir-edges-dst) (q .dir-edges-marked) (q .nodes-outgoing)
 
--- src/chained.rt:122:5
 loop-holds : tie.Need-loop-holds Inv-loop μ-loop
 loop-holds c =
     let k = c .before .before .before .before .before .before .before .before .before .before .before .before .before .before in
     (k .pre .0, k .pre .1, turns-start limits (k .args .bytes .now) (length (k .args .bytes .now) / 58) _, omega arith, refl, refl, refl, refl, refl, refl, refl, refl, refl, refl, refl, refl, refl)
 
--- src/chained.rt:126:13
 mul-take-record : tie.Need-mul-take-record Inv-loop μ-loop
 mul-take-record c = omega arith
 
--- src/chained.rt:123:13
 take-record-requires : tie.Need-take-record-requires Inv-loop μ-loop
 take-record-requires c κs = (c .before .before .before .before .before .before .before .before .before .before .before .before .before .before .loop .inv .0, c .before .before .before .before .before .before .before .before .before .before .before .before .before .before .loop .inv .1)
 
--- src/chained.rt:143:35
 enum-known-reply : tie.Need-enum-known-reply Inv-loop μ-loop
 enum-known-reply c = search needs
 
--- src/chained.rt:144:13
 same-length : tie.Need-same-length Inv-loop μ-loop
 same-length c = c .before .before .before .before .before .before .before .before .before .before .before .before .before .before .before .before .before .before .before .before .before .before .before .before .before .before .before .before .before .before .take-record .kept .1 .1 .1 .0 ∙ c .before .before .before .before .before .before .before .before .before .before .before .before .before .before .before .before .before .before .before .before .before .before .before .before .before .before .before .before .before .before .before .before .before .before .before .before .before .before .before .before .before .before .before .before .before .loop .inv .4
 
--- src/chained.rt:144:13
 same-length-2 : tie.Need-same-length-2 Inv-loop μ-loop
 same-length-2 c = c .before .before .before .before .before .before .before .before .before .before .before .before .before .before .before .before .before .before .before .before .before .before .before .before .before .before .before .before .before .before .take-record .kept .1 .1 .1 .1 .0 ∙ c .before .before .before .before .before .before .before .before .before .before .before .before .before .before .before .before .before .before .before .before .before .before .before .before .before .before .before .before .before .before .before .before .before .before .before .before .before .before .before .before .before .before .before .before .before .loop .inv .5
 
--- src/chained.rt:144:13
 same-length-3 : tie.Need-same-length-3 Inv-loop μ-loop
 same-length-3 c = c .before .before .before .before .before .before .before .before .before .before .before .before .before .before .before .before .before .before .before .before .before .before .before .before .before .before .before .before .before .before .take-record .kept .1 .1 .1 .1 .1 .0 ∙ c .before .before .before .before .before .before .before .before .before .before .before .before .before .before .before .before .before .before .before .before .before .before .before .before .before .before .before .before .before .before .before .before .before .before .before .before .before .before .before .before .before .before .before .before .before .loop .inv .6
 
--- src/chained.rt:144:13
 same-length-4 : tie.Need-same-length-4 Inv-loop μ-loop
 same-length-4 c = c .before .before .before .before .before .before .before .before .before .before .before .before .before .before .before .before .before .before .before .before .before .before .before .before .before .before .before .before .before .before .take-record .kept .1 .1 .1 .1 .1 .1 .0 ∙ c .before .before .before .before .before .before .before .before .before .before .before .before .before .before .before .before .before .before .before .before .before .before .before .before .before .before .before .before .before .before .before .before .before .before .before .before .before .before .before .before .before .before .before .before .before .loop .inv .7
 
--- src/chained.rt:144:13
 same-length-5 : tie.Need-same-length-5 Inv-loop μ-loop
 same-length-5 c = c .before .before .before .before .before .before .before .before .before .before .before .before .before .before .before .before .before .before .before .before .before .before .before .before .before .before .before .before .before .before .take-record .kept .1 .1 .1 .1 .1 .1 .1 .0 ∙ c .before .before .before .before .before .before .before .before .before .before .before .before .before .before .before .before .before .before .before .before .before .before .before .before .before .before .before .before .before .before .before .before .before .before .before .before .before .before .before .before .before .before .before .before .before .loop .inv .8
 
--- src/chained.rt:144:13
 same-length-6 : tie.Need-same-length-6 Inv-loop μ-loop
 same-length-6 c = c .before .before .before .before .before .before .before .before .before .before .before .before .before .before .before .before .before .before .before .before .before .before .before .before .before .before .before .before .before .before .take-record .kept .1 .1 .1 .1 .1 .1 .1 .1 .0 ∙ c .before .before .before .before .before .before .before .before .before .before .before .before .before .before .before .before .before .before .before .before .before .before .before .before .before .before .before .before .before .before .before .before .before .before .before .before .before .before .before .before .before .before .before .before .before .loop .inv .9
 
--- src/chained.rt:144:13
 same-length-7 : tie.Need-same-length-7 Inv-loop μ-loop
 same-length-7 c = c .before .before .before .before .before .before .before .before .before .before .before .before .before .before .before .before .before .before .before .before .before .before .before .before .before .before .before .before .before .before .take-record .kept .1 .1 .1 .1 .1 .1 .1 .1 .1 .0 ∙ c .before .before .before .before .before .before .before .before .before .before .before .before .before .before .before .before .before .before .before .before .before .before .before .before .before .before .before .before .before .before .before .before .before .before .before .before .before .before .before .before .before .before .before .before .before .loop .inv .10
 
--- src/chained.rt:144:13
 same-length-8 : tie.Need-same-length-8 Inv-loop μ-loop
 same-length-8 c = c .before .before .before .before .before .before .before .before .before .before .before .before .before .before .before .before .before .before .before .before .before .before .before .before .before .before .before .before .before .before .take-record .kept .1 .1 .1 .1 .1 .1 .1 .1 .1 .1 .0 ∙ c .before .before .before .before .before .before .before .before .before .before .before .before .before .before .before .before .before .before .before .before .before .before .before .before .before .before .before .before .before .before .before .before .before .before .before .before .before .before .before .before .before .before .before .before .before .loop .inv .11
 
--- src/chained.rt:144:13
 same-length-9 : tie.Need-same-length-9 Inv-loop μ-loop
 same-length-9 c = c .before .before .before .before .before .before .before .before .before .before .before .before .before .before .before .before .before .before .before .before .before .before .before .before .before .before .before .before .before .before .take-record .kept .1 .1 .1 .1 .1 .1 .1 .1 .1 .1 .1 .0 ∙ c .before .before .before .before .before .before .before .before .before .before .before .before .before .before .before .before .before .before .before .before .before .before .before .before .before .before .before .before .before .before .before .before .before .before .before .before .before .before .before .before .before .before .before .before .before .loop .inv .12
 
--- src/chained.rt:144:13
 same-length-10 : tie.Need-same-length-10 Inv-loop μ-loop
 same-length-10 c = c .before .before .before .before .before .before .before .before .before .before .before .before .before .before .before .before .before .before .before .before .before .before .before .before .before .before .before .before .before .before .take-record .kept .1 .1 .1 .1 .1 .1 .1 .1 .1 .1 .1 .1 .0 ∙ c .before .before .before .before .before .before .before .before .before .before .before .before .before .before .before .before .before .before .before .before .before .before .before .before .before .before .before .before .before .before .before .before .before .before .before .before .before .before .before .before .before .before .before .before .before .loop .inv .13
 
--- src/chained.rt:144:13
 same-length-11 : tie.Need-same-length-11 Inv-loop μ-loop
 same-length-11 c = c .before .before .before .before .before .before .before .before .before .before .before .before .before .before .before .before .before .before .before .before .before .before .before .before .before .before .before .before .before .before .take-record .kept .1 .1 .1 .1 .1 .1 .1 .1 .1 .1 .1 .1 .1 .0 ∙ c .before .before .before .before .before .before .before .before .before .before .before .before .before .before .before .before .before .before .before .before .before .before .before .before .before .before .before .before .before .before .before .before .before .before .before .before .before .before .before .before .before .before .before .before .before .loop .inv .14
 
--- src/chained.rt:144:13
 same-length-12 : tie.Need-same-length-12 Inv-loop μ-loop
 same-length-12 c = c .before .before .before .before .before .before .before .before .before .before .before .before .before .before .before .before .before .before .before .before .before .before .before .before .before .before .before .before .before .before .take-record .kept .1 .1 .1 .1 .1 .1 .1 .1 .1 .1 .1 .1 .1 .1 .0 ∙ c .before .before .before .before .before .before .before .before .before .before .before .before .before .before .before .before .before .before .before .before .before .before .before .before .before .before .before .before .before .before .before .before .before .before .before .before .before .before .before .before .before .before .before .before .before .loop .inv .15
 
--- src/chained.rt:144:13
 same-length-13 : tie.Need-same-length-13 Inv-loop μ-loop
 same-length-13 c = c .before .before .before .before .before .before .before .before .before .before .before .before .before .before .before .before .before .before .before .before .before .before .before .before .before .before .before .before .before .before .take-record .kept .1 .1 .1 .1 .1 .1 .1 .1 .1 .1 .1 .1 .1 .1 .1 .0 ∙ c .before .before .before .before .before .before .before .before .before .before .before .before .before .before .before .before .before .before .before .before .before .before .before .before .before .before .before .before .before .before .before .before .before .before .before .before .before .before .before .before .before .before .before .before .before .loop .inv .16
 
--- src/chained.rt:144:13
 returns : tie.Need-returns Inv-loop μ-loop
 returns c =
     let l = c .before .before .before .before .before .before .before .before .before .before .before .before .before .before .before .before .before .before .before .before .before .before .before .before .before .before .before .before .before .before .before .before .before .before .before .before .before .before .before .before .before .before .before .before .before in
@@ -141,15 +120,12 @@ enum-told c = search needs
 small : (c : tie.In-loop Inv-loop μ-loop) → c .before .loop .count + 1 < 18446744073709551616
 small c = omega arith
 
--- src/chained.rt:151:9
 add-count : tie.Need-add-count Inv-loop μ-loop
 add-count c = omega (arith, small (c .before .before .before .before .before .before .before .before .before .before .before .before .before .before .before .before .before .before .before .before .before .before .before .before .before .before .before .before .before .before .before .before .before .before .before .before .before .before .before .before .before .before .before))
 
--- src/chained.rt:122:5
 loop-less : tie.Need-loop-less Inv-loop μ-loop
 loop-less c = omega (arith, c .before .before .before .before .before .before .before .before .before .before .before .before .before .before .before .before .before .before .before .before .before .before .before .before .before .before .before .before .before .before .before .before .before .before .before .before .before .before .before .before .before .before .before .loop-test .taken)
 
--- src/chained.rt:122:5
 loop-again : tie.Need-loop-again Inv-loop μ-loop
 loop-again c =
     let l = c .before .before .before .before .before .before .before .before .before .before .before .before .before .before .before .before .before .before .before .before .before .before .before .before .before .before .before .before .before .before .before .before .before .before .before .before .before .before .before .before .before .before .before .before in
@@ -174,59 +150,45 @@ loop-again c =
       t .kept .1 .1 .1 .1 .1 .1 .1 .1 .1 .1 .1 .1 .1 .1 .1 .0 ∙ q .inv .16,
     )
 
--- src/chained.rt:97:1
 same-length-14 : tie.Need-same-length-14 Inv-loop μ-loop
 same-length-14 c = c .before .loop .inv .4
 
--- src/chained.rt:97:1
 same-length-15 : tie.Need-same-length-15 Inv-loop μ-loop
 same-length-15 c = c .before .loop .inv .5
 
--- src/chained.rt:97:1
 same-length-16 : tie.Need-same-length-16 Inv-loop μ-loop
 same-length-16 c = c .before .loop .inv .6
 
--- src/chained.rt:97:1
 same-length-17 : tie.Need-same-length-17 Inv-loop μ-loop
 same-length-17 c = c .before .loop .inv .7
 
--- src/chained.rt:97:1
 same-length-18 : tie.Need-same-length-18 Inv-loop μ-loop
 same-length-18 c = c .before .loop .inv .8
 
--- src/chained.rt:97:1
 same-length-19 : tie.Need-same-length-19 Inv-loop μ-loop
 same-length-19 c = c .before .loop .inv .9
 
--- src/chained.rt:97:1
 same-length-20 : tie.Need-same-length-20 Inv-loop μ-loop
 same-length-20 c = c .before .loop .inv .10
 
--- src/chained.rt:97:1
 same-length-21 : tie.Need-same-length-21 Inv-loop μ-loop
 same-length-21 c = c .before .loop .inv .11
 
--- src/chained.rt:97:1
 same-length-22 : tie.Need-same-length-22 Inv-loop μ-loop
 same-length-22 c = c .before .loop .inv .12
 
--- src/chained.rt:97:1
 same-length-23 : tie.Need-same-length-23 Inv-loop μ-loop
 same-length-23 c = c .before .loop .inv .13
 
--- src/chained.rt:97:1
 same-length-24 : tie.Need-same-length-24 Inv-loop μ-loop
 same-length-24 c = c .before .loop .inv .14
 
--- src/chained.rt:97:1
 same-length-25 : tie.Need-same-length-25 Inv-loop μ-loop
 same-length-25 c = c .before .loop .inv .15
 
--- src/chained.rt:97:1
 same-length-26 : tie.Need-same-length-26 Inv-loop μ-loop
 same-length-26 c = c .before .loop .inv .16
 
--- src/chained.rt:97:1
 returns-2 : tie.Need-returns-2 Inv-loop μ-loop
 returns-2 c =
     let l = c .before in

@@ -4,22 +4,16 @@ use Rattle.lookup.specs.Codes.{keyCode}
 use borrow.Author.Needs.{needs}
 use Rattle.lookup.proofs.codes.key_code.Statement.{statement}
 use Rattle.lookup.proofs.codes.key_code.Tie as tie
-use Rattle.lookup.proofs.codes.key_code.Reads as reads
-use Rattle.lookup.proofs.codes.key_code.Lts as lts
 
--- src/codes.rt:9:13
 mul-x : tie.Need-mul-x
 mul-x c = search needs
 
--- src/codes.rt:10:13
 mul-y : tie.Need-mul-y
 mul-y c = search needs
 
--- src/codes.rt:11:17
 add-code : tie.Need-add-code
 add-code c = search needs
 
--- src/codes.rt:6:1
 returns : tie.Need-returns
 unfolding keyCode
 returns c = refl

@@ -4,18 +4,13 @@ use Rattle.lookup.specs.Codes.{pairCode}
 use borrow.Author.Needs.{needs}
 use Rattle.lookup.proofs.codes.pair_code.Statement.{statement}
 use Rattle.lookup.proofs.codes.pair_code.Tie as tie
-use Rattle.lookup.proofs.codes.pair_code.Reads as reads
-use Rattle.lookup.proofs.codes.pair_code.Lts as lts
 
--- src/codes.rt:19:6
 mul-result : tie.Need-mul-result
 mul-result c = search needs
 
--- src/codes.rt:19:6
 add-result : tie.Need-add-result
 add-result c = search needs
 
--- src/codes.rt:16:1
 returns : tie.Need-returns
 unfolding pairCode
 returns c = refl

@@ -4,36 +4,26 @@ use Rattle.lookup.proofs.Growing.{no-nodes, no-halves}
 use borrow.Author.Needs.{needs}
 use Rattle.lookup.proofs.grow.chain_all.Statement.{statement}
 use Rattle.lookup.proofs.grow.chain_all.Tie as tie
-use Rattle.lookup.proofs.grow.chain_all.Reads as reads
-use Rattle.lookup.proofs.grow.chain_all.Lts as lts
-use Rattle.lookup.proofs.halves.enter_halves.Reads as enter-halves-reads
-use Rattle.lookup.proofs.nodes.enter_nodes.Reads as enter-nodes-reads
 
--- src/grow.rt:39:18
 mul-halves : tie.Need-mul-halves
 mul-halves c = search needs
 
--- src/grow.rt:40:5
 enter-nodes-requires : tie.Need-enter-nodes-requires
 enter-nodes-requires c κs =
     let k = c .before .before .before .before .before .before .before .before .before in
     (no-nodes (k .args .nodes-x .now) (k .args .nodes-y .now) (k .args .node-chains .now) (k .pre .1 .0 .0) (omega (arith, k .pre .1 .0 .1)), (omega arith, k .pre .0 .roomX, k .pre .0 .roomY, omega (arith, k .pre .1 .0 .1, k .pre .0 .fewNodes)))
 
--- src/grow.rt:41:5
 enter-halves-requires : tie.Need-enter-halves-requires
 enter-halves-requires c κs =
     let k = c .before .before .before .before .before .before .before .before .before .before .before .before .before in
     (no-halves (k .args .dir-edges-src .now) (k .args .dir-edges-dst .now) (k .args .nodes-outgoing .now) (k .args .half-chains .now) (k .pre .1 .1 .0) (omega (arith, k .pre .1 .1 .1)), ((omega arith, k .pre .0 .roomStar, omega (arith, k .pre .1 .1 .1, k .pre .0 .fewEdges)), k .pre .0 .known))
 
--- src/grow.rt:22:1
 same-length : tie.Need-same-length
 same-length c = search needs
 
--- src/grow.rt:22:1
 same-length-2 : tie.Need-same-length-2
 same-length-2 c = search needs
 
--- src/grow.rt:22:1
 returns : tie.Need-returns
 returns c = search needs
 

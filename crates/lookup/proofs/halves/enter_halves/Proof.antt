@@ -1,19 +1,14 @@
 -- `lookup::halves::enter_halves` meets its contract: one entry of the star table after the other.
-use Prim.Native.Nat.{ℕ, suc, _+_, _-_, _<_, _≤_}
+use Prim.Native.Nat.{_-_, _≤_}
 use native.Mathlib.Omega.{arith}
-use native.Mathlib.Numerals.{add-one}
-use mathlib.Core.Path.{_≡_, refl, sym, ap, subst, _∙_}
+use mathlib.Core.Path.{_≡_, refl, subst, _∙_}
 use lib.ListN.{length, getD}
-use Rattle.chains.specs.Chains.{Chained, entered}
+use Rattle.chains.specs.Chains.{Chained}
 use Rattle.chains.proofs.Chaining.{chained-next, length-entered}
 use Rattle.lookup.specs.Codes.{halfHeads, halfCode}
 use Rattle.lookup.proofs.Coding.{pair-low}
 use Rattle.lookup.proofs.halves.enter_halves.Statement.{statement}
 use Rattle.lookup.proofs.halves.enter_halves.Tie as tie
-use Rattle.lookup.proofs.halves.enter_halves.Reads as reads
-use Rattle.lookup.proofs.halves.enter_halves.Lts as lts
-use Rattle.chains.proofs.enter.Reads as enter-reads
-use Rattle.lookup.proofs.halves.half_code.Reads as half-code-reads
 
 abbrev Inv-loop : tie.InvT-loop
 Inv-loop dir-edges-src dir-edges-dst nodes-outgoing half-chains₀ from to i₀ half-chains i = (from ≤ i) × (i ≤ to) × (length half-chains ≡ length half-chains₀) × Chained halfHeads (halfCode dir-edges-src dir-edges-dst nodes-outgoing) i half-chains
@@ -21,42 +16,33 @@ Inv-loop dir-edges-src dir-edges-dst nodes-outgoing half-chains₀ from to i₀ 
 abbrev μ-loop : tie.MeasureT-loop
 μ-loop dir-edges-src dir-edges-dst nodes-outgoing half-chains₀ from to i₀ half-chains i = to - i
 
--- src/halves.rt:41:5
 loop-holds : tie.Need-loop-holds Inv-loop μ-loop
 loop-holds c = (omega arith, omega (arith, c .before .before .before .before .pre .1), refl, c .before .before .before .before .pre .0 .chained)
 
--- src/halves.rt:42:32
 cast-h : tie.Need-cast-h Inv-loop μ-loop
 cast-h c = omega (arith, c .before .before .before .before .before .before .good)
 
--- src/halves.rt:42:17
 mul-h : tie.Need-mul-h Inv-loop μ-loop
 mul-h c = omega (arith, c .loop-test .taken, c .before .before .before .before .before .before .pre .1, c .before .before .before .before .before .before .good)
 
--- src/halves.rt:42:17
 shared-slice-read-h : tie.Need-shared-slice-read-h Inv-loop μ-loop
 shared-slice-read-h c = omega (arith, c .before .loop-test .taken, c .before .before .before .before .before .before .before .pre .1)
 
--- src/halves.rt:43:13
 half-code-requires : tie.Need-half-code-requires Inv-loop μ-loop
 half-code-requires c κs = c .before .before .before .before .before .before .before .pre .1 .1 (c .before .before .loop .i) (c .before .loop-test .taken)
 
--- src/halves.rt:44:9
 enter-requires : tie.Need-enter-requires Inv-loop μ-loop
 enter-requires c κs =
     let a = c .before .before .before .before .before .before .before .before .before .args in
     let h = getD (a .nodes-outgoing .now) (c .before .before .before .before .loop .i) 0 in
     omega (arith, c .before .before .before .loop-test .taken, c .before .half-code .ensures, c .before .before .before .before .loop .inv .2, c .before .before .before .before .before .before .before .before .before .pre .1, pair-low (getD (a .dir-edges-src .now) h 0) (getD (a .dir-edges-dst .now) h 0))
 
--- src/halves.rt:45:9
 add-i : tie.Need-add-i Inv-loop μ-loop
 add-i c = omega (arith, c .before .before .before .before .before .before .loop-test .taken)
 
--- src/halves.rt:41:5
 loop-less : tie.Need-loop-less Inv-loop μ-loop
 loop-less c = omega (arith, c .before .before .before .before .before .before .loop-test .taken)
 
--- src/halves.rt:41:5
 loop-again : tie.Need-loop-again Inv-loop μ-loop
 loop-again c =
     let a = c .before .before .before .before .before .before .before .before .before .before .before .before .args in
@@ -71,11 +57,9 @@ loop-again c =
           (pair-low (getD (a .dir-edges-src .now) h 0) (getD (a .dir-edges-dst .now) h 0)) (omega (arith, c .before .before .before .before .before .before .loop-test .taken, i .2, c .before .before .before .before .before .before .before .before .before .before .before .before .pre .1)) (c .before .before .enter .ensures),
     )
 
--- src/halves.rt:27:1
 same-length : tie.Need-same-length Inv-loop μ-loop
 same-length c = c .before .loop .inv .2
 
--- src/halves.rt:27:1
 returns : tie.Need-returns Inv-loop μ-loop
 returns c =
     let a = c .before .before .before .before .before .before .args in

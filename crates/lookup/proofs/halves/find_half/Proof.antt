@@ -1,8 +1,8 @@
 -- `lookup::halves::find_half` meets its contract: the walk along the chain of the two ends' code.
 use Rattle.chains.proofs.Chaining.{chained-less}
-use Prim.Native.Nat.{ℕ, suc, _+_, _-_, _*_, _<_, _≤_}
+use Prim.Native.Nat.{ℕ, _-_, _*_}
 use native.Mathlib.Omega.{arith}
-use mathlib.Core.Path.{_≡_, refl, sym, ap, subst, _∙_}
+use mathlib.Core.Path.{sym, ap, _∙_}
 use mathlib.Core.Bool.{Bool}
 use mathlib.Core.List.{List}
 use mathlib.Core.Logic.{⊎-elim}
@@ -13,10 +13,6 @@ use Rattle.lookup.proofs.Coding.{pair-low, joins, pair-meant, half-foun
 use borrow.Author.Needs.{needs}
 use Rattle.lookup.proofs.halves.find_half.Statement.{statement}
 use Rattle.lookup.proofs.halves.find_half.Tie as tie
-use Rattle.lookup.proofs.halves.find_half.Reads as reads
-use Rattle.lookup.proofs.halves.find_half.Lts as lts
-use Rattle.adding.proofs.goes.Reads as goes-reads
-use Rattle.lookup.proofs.codes.pair_code.Reads as pair-code-reads
 
 -- what is known on the way
 abbrev Along : List ℕ → List ℕ → List ℕ → ℕ → ℕ → ℕ → ℕ → ℕ → Type 0
@@ -29,23 +25,18 @@ Inv-loop edges dir-edges-src dir-edges-dst nodes-outgoing half-chains from to co
 abbrev μ-loop : tie.MeasureT-loop
 μ-loop edges dir-edges-src dir-edges-dst nodes-outgoing half-chains from to code found₀ at₀ found at = at
 
--- src/halves.rt:65:9
 pair-code-requires : tie.Need-pair-code-requires Inv-loop μ-loop
 pair-code-requires c κs = search needs
 
--- src/halves.rt:66:21
 mul-found : tie.Need-mul-found Inv-loop μ-loop
 mul-found c = omega (arith, c .before .before .before .before .before .pre .0)
 
--- src/halves.rt:67:18
 mul-at : tie.Need-mul-at Inv-loop μ-loop
 mul-at c = omega (arith, c .pair-code .ensures, pair-low (c .before .before .before .before .before .args .u .0) (c .before .before .before .before .before .args .v .0), c .before .before .before .before .before .good)
 
--- src/halves.rt:67:18
 shared-slice-read-at : tie.Need-shared-slice-read-at Inv-loop μ-loop
 shared-slice-read-at c = omega (arith, c .before .pair-code .ensures, pair-low (c .before .before .before .before .before .before .args .u .0) (c .before .before .before .before .before .before .args .v .0), c .before .before .before .before .before .before .pre .1 .room)
 
--- src/halves.rt:68:5
 loop-holds : tie.Need-loop-holds Inv-loop μ-loop
 loop-holds c =
     let a = c .before .before .before .before .before .before .args in
@@ -55,50 +46,39 @@ loop-holds c =
     halfHeads n n (a .half-chains .now) (c .before .before .before .before .before .before .pre .1 .chained)
     (getD (a .half-chains .now) (c .before .pair-code .result) 0) (pair-low (a .u .0) (a .v .0)) (ap (λ i. getD (a .half-chains .now) i 0) (c .before .pair-code .ensures))
 
--- src/halves.rt:69:18
 sub-i : tie.Need-sub-i Inv-loop μ-loop
 sub-i c = omega (arith, c .loop-test .taken)
 
--- src/halves.rt:69:17
 cast-i : tie.Need-cast-i Inv-loop μ-loop
 cast-i c = omega (arith, c .before .loop .inv .low, c .before .before .before .before .before .before .before .before .pre .0)
 
--- src/halves.rt:70:17
 mul-h : tie.Need-mul-h Inv-loop μ-loop
 mul-h c = omega (arith, c .loop-test .taken, c .before .loop .inv .low, c .before .before .before .before .before .before .before .before .pre .1 .roomStar, c .before .before .before .before .before .before .before .before .good)
 
--- src/halves.rt:70:17
 shared-slice-read-h : tie.Need-shared-slice-read-h Inv-loop μ-loop
 shared-slice-read-h c = omega (arith, c .before .loop-test .taken, c .before .before .loop .inv .low, c .before .before .before .before .before .before .before .before .before .pre .1 .roomStar)
 
--- src/halves.rt:71:55
 cast-goes : tie.Need-cast-goes Inv-loop μ-loop
 cast-goes c = omega (arith, c .shared-slice-known6 .given (c .before .before .loop .at - 1))
 
--- src/halves.rt:71:12
 goes-requires : tie.Need-goes-requires Inv-loop μ-loop
 goes-requires c κs = c .before .before .before .before .before .before .before .before .before .pre .1 .known (c .before .before .loop .at - 1) (omega (arith, c .before .loop-test .taken, c .before .before .loop .inv .low))
 
--- src/halves.rt:74:26
 add-at : tie.Need-add-at Inv-loop μ-loop
 add-at c = omega (arith, c .before .before .before .before .loop .inv .low, c .before .before .before .before .before .before .before .before .before .before .before .pre .0)
 
--- src/halves.rt:74:14
 mul-at-2 : tie.Need-mul-at-2 Inv-loop μ-loop
 mul-at-2 c = omega (arith, c .before .before .before .loop-test .taken, c .before .before .before .before .loop .inv .low, c .before .before .before .before .before .before .before .before .before .before .before .pre .1 .room, c .before .before .before .before .before .before .before .before .before .before .before .good)
 
--- src/halves.rt:74:14
 shared-slice-read-at-2 : tie.Need-shared-slice-read-at-2 Inv-loop μ-loop
 shared-slice-read-at-2 c = omega (arith, c .before .before .before .before .loop-test .taken, c .before .before .before .before .before .loop .inv .low, c .before .before .before .before .before .before .before .before .before .before .before .before .pre .1 .room)
 
--- src/halves.rt:68:5
 loop-less : tie.Need-loop-less Inv-loop μ-loop
 loop-less c =
     let a = c .before .before .before .before .before .before .before .before .before .before .before .before .args in
     let n = c .before .before .before .before .before .loop .at - 1 in
     omega (arith, c .before .before .before .before .loop-test .taken, chained-less halfHeads (halfCode (a .dir-edges-src .now) (a .dir-edges-dst .now) (a .nodes-outgoing .now)) (2 * a .edges) (a .half-chains .now) (c .before .before .before .before .before .before .before .before .before .before .before .before .pre .1 .chained) n (omega (arith, c .before .before .before .before .loop-test .taken, c .before .before .before .before .before .loop .inv .low)))
 
--- src/halves.rt:68:5
 loop-again : tie.Need-loop-again Inv-loop μ-loop
 loop-again c =
     let a = c .before .before .before .before .before .before .before .before .before .before .before .before .args in
@@ -113,7 +93,6 @@ loop-again c =
     (λ w. walk-miss p (λ i. getD star i 0) (halfCode source target star) (pairCode (a .u .0) (a .v .0)) m halfHeads n n (a .half-chains .now) (c .before .before .before .before .before .before .before .before .before .before .before .before .pre .1 .chained) (c .before .before .before .before .before .loop .at) (c .before .before .before .before .before .loop .found) (c .before .if1 .found) (c .before .before .before .before .before .loop .inv) (c .before .before .before .before .loop-test .taken) (sym (c .before .before .goes .ensures) ∙ w .0 .left) (w .1))
     (c .before .if1 .came)
 
--- src/halves.rt:51:1
 returns : tie.Need-returns Inv-loop μ-loop
 returns c =
     let a = c .before .before .before .before .before .before .before .before .args in

@@ -1,20 +1,15 @@
 -- `lookup::nodes::enter_nodes` meets its contract: one node after the other.
-use Prim.Native.Nat.{ℕ, suc, _+_, _-_, _<_, _≤_}
+use Prim.Native.Nat.{_-_, _≤_}
 use native.Mathlib.Omega.{arith}
-use native.Mathlib.Numerals.{add-one}
-use mathlib.Core.Path.{_≡_, refl, sym, ap, subst, _∙_}
+use mathlib.Core.Path.{_≡_, refl, subst, _∙_}
 use lib.ListN.{length}
-use Rattle.chains.specs.Chains.{Chained, entered}
+use Rattle.chains.specs.Chains.{Chained}
 use Rattle.chains.proofs.Chaining.{chained-next, length-entered}
 use Rattle.rules.specs.State.{keyIn}
 use Rattle.lookup.specs.Codes.{nodeHeads, nodeCode}
 use Rattle.lookup.proofs.Coding.{key-low}
 use Rattle.lookup.proofs.nodes.enter_nodes.Statement.{statement}
 use Rattle.lookup.proofs.nodes.enter_nodes.Tie as tie
-use Rattle.lookup.proofs.nodes.enter_nodes.Reads as reads
-use Rattle.lookup.proofs.nodes.enter_nodes.Lts as lts
-use Rattle.chains.proofs.enter.Reads as enter-reads
-use Rattle.lookup.proofs.nodes.node_code.Reads as node-code-reads
 
 abbrev Inv-loop : tie.InvT-loop
 Inv-loop nodes-x nodes-y node-chains₀ from to n₀ node-chains n = (from ≤ n) × (n ≤ to) × (length node-chains ≡ length node-chains₀) × Chained nodeHeads (nodeCode nodes-x nodes-y) n node-chains
@@ -22,31 +17,24 @@ Inv-loop nodes-x nodes-y node-chains₀ from to n₀ node-chains n = (from ≤ n
 abbrev μ-loop : tie.MeasureT-loop
 μ-loop nodes-x nodes-y node-chains₀ from to n₀ node-chains n = to - n
 
--- src/nodes.rt:39:5
 loop-holds : tie.Need-loop-holds Inv-loop μ-loop
 loop-holds c = (omega arith, omega (arith, c .before .before .before .pre .1), refl, c .before .before .before .pre .0 .chained)
 
--- src/nodes.rt:40:48
 cast-node-code : tie.Need-cast-node-code Inv-loop μ-loop
 cast-node-code c = omega (arith, c .before .before .before .before .before .good)
 
--- src/nodes.rt:40:13
 node-code-requires : tie.Need-node-code-requires Inv-loop μ-loop
 node-code-requires c κs = omega (arith, c .loop-test .taken, c .before .before .before .before .before .pre .1)
 
--- src/nodes.rt:41:9
 enter-requires : tie.Need-enter-requires Inv-loop μ-loop
 enter-requires c κs = omega (arith, c .before .before .loop-test .taken, c .before .node-code .ensures, c .before .before .before .loop .inv .2, c .before .before .before .before .before .before .before .pre .1, key-low (keyIn (c .before .before .before .before .before .before .before .args .nodes-x .now) (c .before .before .before .before .before .before .before .args .nodes-y .now) (c .before .before .before .loop .n)))
 
--- src/nodes.rt:42:9
 add-n : tie.Need-add-n Inv-loop μ-loop
 add-n c = omega (arith, c .before .before .before .before .before .loop-test .taken)
 
--- src/nodes.rt:39:5
 loop-less : tie.Need-loop-less Inv-loop μ-loop
 loop-less c = omega (arith, c .before .before .before .before .before .loop-test .taken)
 
--- src/nodes.rt:39:5
 loop-again : tie.Need-loop-again Inv-loop μ-loop
 loop-again c =
     let a = c .before .before .before .before .before .before .before .before .before .before .args in
@@ -60,11 +48,9 @@ loop-again c =
           (key-low (keyIn (a .nodes-x .now) (a .nodes-y .now) n)) (omega (arith, c .before .before .before .before .before .loop-test .taken, i .2, c .before .before .before .before .before .before .before .before .before .before .pre .1)) (c .before .before .enter .ensures),
     )
 
--- src/nodes.rt:27:1
 same-length : tie.Need-same-length Inv-loop μ-loop
 same-length c = c .before .loop .inv .2
 
--- src/nodes.rt:27:1
 returns : tie.Need-returns Inv-loop μ-loop
 returns c =
     let i = c .before .loop .inv in

@@ -1,11 +1,10 @@
 -- `lookup::nodes::find_node` meets its contract: the walk along the chain of the point's code.
 use Rattle.chains.proofs.Chaining.{chained-less}
 use borrow.Author.Needs.{needs}
-use Prim.Native.Nat.{ℕ, suc, _+_, _-_, _<_, _≤_}
+use Prim.Native.Nat.{ℕ, _-_}
 use Rattle.adding.specs.Searches.{findNodeIn}
 use native.Mathlib.Omega.{arith}
-use mathlib.Core.Path.{_≡_, refl, sym, ap, ap₂, subst, _∙_}
-use mathlib.Core.Bool.{Bool, cond}
+use mathlib.Core.Path.{sym, ap, ap₂, _∙_}
 use mathlib.Core.List.{List}
 use mathlib.Core.Logic.{⊎-elim}
 use lib.Ieee.{Float}
@@ -17,11 +16,6 @@ use Rattle.lookup.specs.Codes.{nodeHeads, keyCode, nodeCode}
 use Rattle.lookup.proofs.Coding.{key-low, hasKey, key-meant, node-found}
 use Rattle.lookup.proofs.nodes.find_node.Statement.{statement}
 use Rattle.lookup.proofs.nodes.find_node.Tie as tie
-use Rattle.lookup.proofs.nodes.find_node.Reads as reads
-use Rattle.lookup.proofs.nodes.find_node.Lts as lts
-use Rattle.adding.proofs.has_key.Reads as has-key-reads
-use Rattle.geometry.proofs.canonical_coordinate_bits.Reads as canonical-coordinate-bits-reads
-use Rattle.lookup.proofs.codes.key_code.Reads as key-code-reads
 
 -- what is known on the way
 abbrev Along : List Float → List Float → ℕ → ℕ → ℕ → ℕ → ℕ → Type 0
@@ -35,28 +29,22 @@ Inv-loop nodes nodes-x nodes-y node-chains bits-x bits-y code found₀ at₀ fou
 abbrev μ-loop : tie.MeasureT-loop
 μ-loop nodes nodes-x nodes-y node-chains bits-x bits-y code found₀ at₀ found at = at
 
--- src/nodes.rt:58:9
 canonical-coordinate-bits-requires : tie.Need-canonical-coordinate-bits-requires Inv-loop μ-loop
 canonical-coordinate-bits-requires c κs = search needs
 
--- src/nodes.rt:59:9
 canonical-coordinate-bits-requires-2 :
     tie.Need-canonical-coordinate-bits-requires-2 Inv-loop μ-loop
 canonical-coordinate-bits-requires-2 c κs = search needs
 
--- src/nodes.rt:60:9
 key-code-requires : tie.Need-key-code-requires Inv-loop μ-loop
 key-code-requires c κs = search needs
 
--- src/nodes.rt:62:18
 mul-at : tie.Need-mul-at Inv-loop μ-loop
 mul-at c = omega (arith, c .key-code .ensures, key-low (record { x = c .before .before .canonical-coordinate-bits .result; y = c .before .canonical-coordinate-bits2 .result }), c .before .before .before .before .before .before .good)
 
--- src/nodes.rt:62:18
 shared-slice-read-at : tie.Need-shared-slice-read-at Inv-loop μ-loop
 shared-slice-read-at c = omega (arith, c .before .key-code .ensures, key-low (record { x = c .before .before .before .canonical-coordinate-bits .result; y = c .before .before .canonical-coordinate-bits2 .result }), c .before .before .before .before .before .before .before .pre .room)
 
--- src/nodes.rt:63:5
 loop-holds : tie.Need-loop-holds Inv-loop μ-loop
 loop-holds c =
     let a = c .before .before .before .before .before .before .before .args in
@@ -64,38 +52,30 @@ loop-holds c =
     walk-start (hasKey (a .nodes-x .now) (a .nodes-y .now) k) (λ i. i) (nodeCode (a .nodes-x .now) (a .nodes-y .now)) (keyCode k) (key-meant (a .nodes-x .now) (a .nodes-y .now) k) nodeHeads (a .nodes) (a .nodes) (a .node-chains .now) (c .before .before .before .before .before .before .before .pre .chained)
     (getD (a .node-chains .now) (c .before .key-code .result) 0) (key-low k) (ap (λ i. getD (a .node-chains .now) i 0) (c .before .key-code .ensures))
 
--- src/nodes.rt:64:17
 sub-n : tie.Need-sub-n Inv-loop μ-loop
 sub-n c = omega (arith, c .loop-test .taken)
 
--- src/nodes.rt:65:17
 cast-i : tie.Need-cast-i Inv-loop μ-loop
 cast-i c = omega (arith, c .before .loop .inv .low)
 
--- src/nodes.rt:66:12
 has-key-requires : tie.Need-has-key-requires Inv-loop μ-loop
 has-key-requires c κs = omega (arith, c .loop-test .taken, c .before .loop .inv .low, c .before .before .before .before .before .before .before .before .before .pre .roomX, c .before .before .before .before .before .before .before .before .before .pre .roomY)
 
--- src/nodes.rt:69:26
 add-at : tie.Need-add-at Inv-loop μ-loop
 add-at c = omega (arith, c .before .before .before .loop .inv .low, c .before .before .before .before .before .before .before .before .before .before .before .pre .room)
 
--- src/nodes.rt:69:14
 mul-at-2 : tie.Need-mul-at-2 Inv-loop μ-loop
 mul-at-2 c = omega (arith, c .before .before .loop-test .taken, c .before .before .before .loop .inv .low, c .before .before .before .before .before .before .before .before .before .before .before .pre .room, c .before .before .before .before .before .before .before .before .before .before .before .good)
 
--- src/nodes.rt:69:14
 shared-slice-read-at-2 : tie.Need-shared-slice-read-at-2 Inv-loop μ-loop
 shared-slice-read-at-2 c = omega (arith, c .before .before .before .loop-test .taken, c .before .before .before .before .loop .inv .low, c .before .before .before .before .before .before .before .before .before .before .before .before .pre .room)
 
--- src/nodes.rt:63:5
 loop-less : tie.Need-loop-less Inv-loop μ-loop
 loop-less c =
     let a = c .before .before .before .before .before .before .before .before .before .before .before .before .args in
     let n = c .before .before .before .before .loop .at - 1 in
     omega (arith, c .before .before .before .loop-test .taken, chained-less nodeHeads (nodeCode (a .nodes-x .now) (a .nodes-y .now)) (a .nodes) (a .node-chains .now) (c .before .before .before .before .before .before .before .before .before .before .before .before .pre .chained) n (omega (arith, c .before .before .before .loop-test .taken, c .before .before .before .before .loop .inv .low)))
 
--- src/nodes.rt:63:5
 loop-again : tie.Need-loop-again Inv-loop μ-loop
 loop-again c =
     let a = c .before .before .before .before .before .before .before .before .before .before .before .before .args in
@@ -108,7 +88,6 @@ loop-again c =
     (λ w. walk-miss p (λ i. i) code (keyCode k) m nodeHeads (a .nodes) (a .nodes) (a .node-chains .now) (c .before .before .before .before .before .before .before .before .before .before .before .before .pre .chained) (c .before .before .before .before .loop .at) (c .before .before .before .before .loop .found) (c .before .if1 .found) (c .before .before .before .before .loop .inv) (c .before .before .before .loop-test .taken) (sym (c .before .before .has-key .ensures) ∙ w .0 .left) (w .1))
     (c .before .if1 .came)
 
--- src/nodes.rt:48:1
 returns : tie.Need-returns Inv-loop μ-loop
 unfolding keyOf
 returns c =

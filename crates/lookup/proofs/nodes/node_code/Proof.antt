@@ -1,45 +1,33 @@
 -- `lookup::nodes::node_code` meets its contract.
-use mathlib.Core.Path.{_≡_, ap₂, _∙_}
+use mathlib.Core.Path.{ap₂, _∙_}
 use Rattle.rules.specs.Keys.{keyOf}
 use Rattle.lookup.specs.Codes.{keyCode}
 use borrow.Author.Needs.{needs}
 use Rattle.lookup.proofs.nodes.node_code.Statement.{statement}
 use Rattle.lookup.proofs.nodes.node_code.Tie as tie
-use Rattle.lookup.proofs.nodes.node_code.Reads as reads
-use Rattle.lookup.proofs.nodes.node_code.Lts as lts
-use Rattle.geometry.proofs.canonical_coordinate_bits.Reads as canonical-coordinate-bits-reads
-use Rattle.lookup.proofs.codes.key_code.Reads as key-code-reads
 
--- src/nodes.rt:21:54
 mul-canonical-coordinate-bits : tie.Need-mul-canonical-coordinate-bits
 mul-canonical-coordinate-bits c = search needs
 
--- src/nodes.rt:21:54
 shared-slice-read-canonical-coordinate-bits : tie.Need-shared-slice-read-canonical-coordinate-bits
 shared-slice-read-canonical-coordinate-bits c = search needs
 
--- src/nodes.rt:21:9
 canonical-coordinate-bits-requires : tie.Need-canonical-coordinate-bits-requires
 canonical-coordinate-bits-requires c κs = search needs
 
--- src/nodes.rt:22:54
 mul-canonical-coordinate-bits-2 : tie.Need-mul-canonical-coordinate-bits-2
 mul-canonical-coordinate-bits-2 c = search needs
 
--- src/nodes.rt:22:54
 shared-slice-read-canonical-coordinate-bits-2 :
     tie.Need-shared-slice-read-canonical-coordinate-bits-2
 shared-slice-read-canonical-coordinate-bits-2 c = search needs
 
--- src/nodes.rt:22:9
 canonical-coordinate-bits-requires-2 : tie.Need-canonical-coordinate-bits-requires-2
 canonical-coordinate-bits-requires-2 c κs = search needs
 
--- src/nodes.rt:23:5
 key-code-requires : tie.Need-key-code-requires
 key-code-requires c κs = search needs
 
--- src/nodes.rt:17:1
 returns : tie.Need-returns
 unfolding keyOf
 returns c =
