@@ -1,5 +1,5 @@
--- A file is additions: the state that its records leave is the end of a run of additions, each of which meets the clause of `add_line`. So
--- demand 3, which is about such runs, holds where files were added too.
+-- A file is additions: the state that its records leave is the end of a run of additions, each of which meets the clause of `add_line`.
+-- Demand 3 is about such runs of single calls; nothing here states it of files.
 use Prim.Native.Nat.{ℕ, zero, suc, _+_, _-_, _*_, _/_}
 use mathlib.Core.Path.{_≡_, refl, sym, subst}
 use mathlib.Core.Bool.{Bool, true, false}

@@ -4,5 +4,5 @@ pub mod Ending
 pub mod Shell
 -- demand 1: a refusal changes nothing lent
 pub mod Refusals
--- demand 3: a file is additions
+-- a file is additions
 pub mod Additions
