@@ -3,21 +3,17 @@ use Prim.Native.Nat.{ℕ, zero, suc, _+_, _-_, _<_, _≤_}
 use native.Mathlib.Omega.{arith}
 use mathlib.Core.Path.{_≡_, refl, sym, ap, subst, _∙_}
 use mathlib.Core.Bool.{Bool, true, false, cond}
-use mathlib.Core.List.{List, [], _∷_, _++_}
+use mathlib.Core.List.{List, [], _∷_}
 use lib.ListN.{length, getD, take}
 use lib.Seq.{take-suc}
 use borrow.Author.Tests.{eq-eqb, ne-eqb}
 use Rattle.lists.specs.Lists.{upto, firstWhere}
 use Rattle.lists.proofs.Counts.{by-eq, by-test}
+use Rattle.lists.proofs.Searching.{first-append}
 use Rattle.chains.specs.Chains.{lastBelow, Chained, lowestOf}
 use Rattle.chains.proofs.Chaining.{last-le, last-code}
 
 -- ---- the lowest item as the first of a list
-
--- what is found first in two lists one behind the other
-first-append : (p : ℕ → Bool) (d : ℕ) (l m : List ℕ) → firstWhere p d (l ++ m) ≡ firstWhere p (firstWhere p d m) l
-first-append p d [] m = refl
-first-append p d (x ∷ l) m = ap (cond (p x) x) (first-append p d l m)
 
 -- of the numbers below n
 pub lowest-upto : (p : ℕ → Bool) (d n : ℕ) → lowestOf p (λ i. i) d n ≡ firstWhere p d (upto n)
@@ -76,21 +72,24 @@ module _ (p : ℕ → Bool) (value code : ℕ → ℕ) (c : ℕ) (meant : (n : �
           rest = sym (lowest-last (cond (p n) (value n) found) n) ∙ w .rest;
         })
 
-    -- the same, as the code has it: what `at` shows passes
-    pub walk-hit : (at found found′ : ℕ) → Walk none count at found → 0 < at → p (at - 1) ≡ true → found′ ≡ value (at - 1)
+    -- the same of what `at` shows, by how the test goes
+    walk-on : (b : Bool) (at found found′ : ℕ) → Walk none count at found → 0 < at → p (at - 1) ≡ b → found′ ≡ cond b (value (at - 1)) found
         → Walk none count (getD table (heads + (at - 1)) 0) found′
-    walk-hit at found found′ w h e is =
+    walk-on b at found found′ w h e is =
         let n = at - 1 in
         let z : at ≡ suc n = omega arith in
-        subst (Walk none count (getD table (heads + n) 0)) (ap (λ b. cond b (value n) found) e ∙ sym is) (walk-step n found (getD table (heads + n) 0) (subst (λ k. Walk none count k found) z w) refl)
+        subst (Walk none count (getD table (heads + n) 0)) (ap (λ b. cond b (value n) found) e ∙ sym is)
+        (walk-step n found (getD table (heads + n) 0) (subst (λ k. Walk none count k found) z w) refl)
+
+    -- as the code has it: it passes
+    pub walk-hit : (at found found′ : ℕ) → Walk none count at found → 0 < at → p (at - 1) ≡ true → found′ ≡ value (at - 1)
+        → Walk none count (getD table (heads + (at - 1)) 0) found′
+    walk-hit = walk-on true
 
     -- or does not
     pub walk-miss : (at found found′ : ℕ) → Walk none count at found → 0 < at → p (at - 1) ≡ false → found′ ≡ found
         → Walk none count (getD table (heads + (at - 1)) 0) found′
-    walk-miss at found found′ w h e is =
-        let n = at - 1 in
-        let z : at ≡ suc n = omega arith in
-        subst (Walk none count (getD table (heads + n) 0)) (ap (λ b. cond b (value n) found) e ∙ sym is) (walk-step n found (getD table (heads + n) 0) (subst (λ k. Walk none count k found) z w) refl)
+    walk-miss = walk-on false
 
     -- at the end of the chain
     pub walk-end : (at found : ℕ) → Walk none count at found → at ≤ 0 → found ≡ lowestOf p value none count

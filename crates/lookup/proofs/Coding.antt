@@ -1,14 +1,14 @@
 -- Codes: where they lie, and that equal keys and equal ends have equal codes.
 use Prim.Native.Nat.{ℕ, _*_, _<_, _≤_}
 use native.Mathlib.Omega.{arith}
-use mathlib.Core.Path.{_≡_, refl, sym, ap₂, _∙_}
-use mathlib.Core.Bool.{Bool, true, false, _&&_}
+use mathlib.Core.Path.{_≡_, sym, ap₂, _∙_}
+use mathlib.Core.Bool.{Bool, true, _&&_}
 use mathlib.Core.List.{List}
 use lib.Dec.{eqb}
 use lib.Ieee.{Float}
 use lib.ListN.{length, getD, take}
 use borrow.Author.Tests.{eqb-true}
-use Rattle.lists.proofs.Counts.{true-is-false}
+use Rattle.lists.proofs.Members.{both}
 use Rattle.lists.proofs.Searching.{first-pick}
 use Rattle.chains.specs.Chains.{lowestOf}
 use Rattle.chains.proofs.Walking.{lowest-upto, lowest-take}
@@ -26,11 +26,6 @@ key-low k = omega arith
 pub pair-low : (u v : ℕ) → pairCode u v < halfHeads
 unfolding pairCode
 pair-low u v = omega arith
-
--- both tests are passed
-both : (a b : Bool) → (a && b) ≡ true → (a ≡ true) × (b ≡ true)
-both true b e = (refl, e)
-both false b e = absurd (true-is-false (sym e))
 
 -- ---- nodes
 

@@ -8,8 +8,4 @@ mod nodes;
 pub use grow::add_chained;
 pub use grow::chain_all;
 pub use halves::HALF_HEADS;
-pub use halves::enter_halves;
-pub use halves::find_half;
 pub use nodes::NODE_HEADS;
-pub use nodes::enter_nodes;
-pub use nodes::find_node;
