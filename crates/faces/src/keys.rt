@@ -48,7 +48,7 @@ fn turn_of(xs: &[u64], ys: &[u64], first: usize, size: usize) -> u16
 {
     let end = first + size;
     match rotation::minimum_rotation_index(&xs[first..end], &ys[first..end]) {
-        RotationStart::At(at) => at as u16,
+        RotationStart::At(at, _) => at as u16,
         RotationStart::LengthsDiffer => 0,
     }
 }

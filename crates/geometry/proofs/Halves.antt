@@ -15,15 +15,8 @@ use lib.Ieee.Fits.{down-pos}
 use lib.Ieee.Exact.{HasValue, round-exact}
 use lib.Ieee.Back.{round-whole}
 use lib.Ieee.Scale.{round-same}
-use Rattle.geometry.specs.Coordinate.{eqZ, signed, Whole}
+use Rattle.geometry.specs.Coordinate.{eqZ, signed, Whole, Part}
 use Rattle.geometry.proofs.Exact.{below-scale, level-scale, below-int, level-int, lt-or-eq, size-of, whole-ofInt}
-
--- the float x is the fraction z / c
-pub record Part (x : Float) (z : ℤ) (c : ℕ) : Type 0 where
-  pub sign : Bool
-  pub size : ℕ
-  pub holds : HasValue x sign size c
-  pub is : z ≡ signed sign size
 
 -- 0.5 and 2.0
 abbrev pub half : Float

@@ -6,11 +6,12 @@ use Rattle.geometry.specs.Reply.{Reply, success}
 use Rattle.rules.specs.Limits.{limits}
 use Rattle.lists.specs.Lists.{upto}
 use Rattle.rules.specs.State.{State, roomy, arrangement, pointOf}
+use Rattle.rules.specs.Euler.{census}
 use Rattle.rules.specs.Adding.{Outcome, Nothing, add}
 use Rattle.rules.specs.Stages.{create, created, sort, pruneStep, cutStep, reset}
 use Rattle.rules.specs.Ringing.{RingLists, Ringing, ringStep}
 use Rattle.rules.specs.Sketch.{Sketch, pointAt, sketched, Call, feed, adding, sorting, pruning, cutting, ringing, resetting}
-use Rattle.rules.specs.Claim.{isRefused, World, call, turnWorld, history, emptySketch, ringsFrom, RingRules, SideRules, Claim, SoundClaim, Real, AllReal}
+use Rattle.rules.specs.Claim.{isRefused, World, call, turnWorld, history, emptySketch, ringsFrom, RingRules, SideRules, TableRules, Claim, SoundClaim, Real, AllReal}
 use Rattle.rules.proofs.Replies.{demand-passed}
 use Rattle.rules.proofs.Histories.{demand-3, demand-3-sound}
 use Rattle.planar_graph.specs.Clauses.{Creates}
@@ -95,6 +96,7 @@ Says out r w =
     ringStep limits (w .state) out .reply ≡ success r
     → RingRules (sketched (w .sketch)) (pointAt (w .sketch)) (ringsFrom (ringStep limits (w .state) out .lists) (upto (r .count)))
     × SideRules (sketched (w .sketch)) (pointAt (w .sketch)) (ringsFrom (ringStep limits (w .state) out .lists) (upto (r .count))) (ringStep limits (w .state) out .lists)
+    × TableRules (w .sketch) (ringStep limits (w .state) out .state) r
 
 -- the claim, of the world that a run ends in
 claimed : (tables new : State) (none : Nothing) → Creates tables (success none) new → (steps : List Step) → Run new steps → (out : RingLists) (r : Ringing)
@@ -111,13 +113,14 @@ pub demand3 : Demand3
 unfolding Demand3
 demand3 tables new none c steps run out written last r e =
     let k = sketchFrom emptySketch steps in
-    subst (λ lists. RingRules (sketched k) (pointAt k) (ringsFrom lists (upto (r .count))) × SideRules (sketched k) (pointAt k) (ringsFrom lists (upto (r .count))) lists)
-    (ap (λ z. z .lists) (sym e))
+    subst (λ (o : Outcome Ringing RingLists).
+    RingRules (sketched k) (pointAt k) (ringsFrom (o .lists) (upto (r .count))) × SideRules (sketched k) (pointAt k) (ringsFrom (o .lists) (upto (r .count))) (o .lists) × TableRules k (o .state) r)
+    (sym e)
     (claimed tables new none c steps run out r (ap (λ z. z .reply) (sym e)))
 
 pub demand3-sound : Demand3Sound
 unfolding Demand3Sound SoundClaim
 demand3-sound s last out written r e =
-    subst (λ lists. RingRules (arrangement s) (pointOf s) (ringsFrom lists (upto (r .count))) × SideRules (arrangement s) (pointOf s) (ringsFrom lists (upto (r .count))) lists)
+    subst (λ lists. RingRules (arrangement s) (pointOf s) (ringsFrom lists (upto (r .count))) × SideRules (arrangement s) (pointOf s) (ringsFrom lists (upto (r .count))) lists × (r .census ≡ census (arrangement s)))
     (ap (λ z. z .lists) (sym e))
     (demand-3-sound s out r (ap (λ z. z .reply) (sym e)))

@@ -1,16 +1,18 @@
 -- A run: calls from a newly created graph, each of which meets the clause that its entry ensures and takes up what the last one left.
 -- Demand 3 is one theorem about runs.
 use Prim.Native.Nat.{ℕ}
+use mathlib.Core.Path.{_≡_}
 use mathlib.Core.List.{List, [], _∷_}
 use Rattle.lists.specs.Lists.{upto}
 use Rattle.geometry.specs.Reply.{Reply, success}
 use Rattle.geometry.specs.declared.Line3D.{Line3D}
 use Rattle.rules.specs.State.{State, arrangement, pointOf}
+use Rattle.rules.specs.Euler.{census}
 use Rattle.rules.specs.Adding.{Nothing, Added}
 use Rattle.rules.specs.Stages.{Cutting}
 use Rattle.rules.specs.Ringing.{RingLists, Ringing}
 use Rattle.rules.specs.Sketch.{Sketch, pointAt, sketched, feed, adding, sorting, pruning, cutting, ringing, resetting}
-use Rattle.rules.specs.Claim.{isRefused, emptySketch, ringsFrom, RingRules, SideRules, Given64}
+use Rattle.rules.specs.Claim.{isRefused, emptySketch, ringsFrom, RingRules, SideRules, TableRules, Given64}
 use Rattle.planar_graph.specs.Clauses.{Creates, Adds, Sorts, Prunes, Cuts, Extracts, Resets}
 
 -- a call of a run, with what came out of it
@@ -66,7 +68,8 @@ sketchFrom k (x ∷ xs) = sketchFrom (feedStep x k) xs
 
 -- Demand 3. The tables held anything when the graph was created; then came any calls, refused ones included. A ring extraction that
 -- succeeds gives exactly the rings of the sketch of the calls before it, in the same order; their doubled areas sum to zero; each
--- unmarked half-edge is passed once, a marked one never; rings join and stay in their maximal ring; sides and areas are exact.
+-- unmarked half-edge is passed once, a marked one never; rings join and stay in their maximal ring; sides and areas are exact. The counts
+-- replied are the sketch's, and the tables hold its points, lines and marks.
 unfoldable pub Demand3 : Type 0
 Demand3 =
     (tables : State) (new : State) (none : Nothing) → Creates tables (success none) new
@@ -74,11 +77,11 @@ Demand3 =
     → (out written : RingLists) (last : State) (r : Ringing) → Extracts (ends new steps) out (success r) last written
     → let k = sketchFrom emptySketch steps in
     let rings = ringsFrom written (upto (r .count)) in
-    RingRules (sketched k) (pointAt k) rings × SideRules (sketched k) (pointAt k) rings written
+    RingRules (sketched k) (pointAt k) rings × SideRules (sketched k) (pointAt k) rings written × TableRules k last r
 
 -- The same of every sound state, by its own edges and marks.
 unfoldable pub Demand3Sound : Type 0
 Demand3Sound =
     (s last : State) (out written : RingLists) (r : Ringing) → Extracts s out (success r) last written
     → let rings = ringsFrom written (upto (r .count)) in
-    RingRules (arrangement s) (pointOf s) rings × SideRules (arrangement s) (pointOf s) rings written
+    RingRules (arrangement s) (pointOf s) rings × SideRules (arrangement s) (pointOf s) rings written × (r .census ≡ census (arrangement s))

@@ -1,4 +1,4 @@
-// Runs the least rotation on rings worked by hand and prints where it starts.
+// Runs the least rotation on rings worked by hand and prints where it starts and the comparisons made.
 use rotation::RotationStart;
 
 const STDOUT: i32 = 1;
@@ -10,9 +10,11 @@ fn text(line: &[u8]) {
 fn start(name: &[u8], xs: &[u64], ys: &[u64]) {
     text(name);
     match rotation::minimum_rotation_index(xs, ys) {
-        RotationStart::At(i) => {
+        RotationStart::At(i, compared) => {
             text(b" starts at ");
             io::print_decimal(STDOUT, i as u64);
+            text(b", comparisons ");
+            io::print_decimal(STDOUT, compared as u64);
             text(b"\n");
         }
         RotationStart::LengthsDiffer => text(b" has keys of unequal lengths\n"),
@@ -30,6 +32,8 @@ fn main() {
     start(b"7 alone", &alone, &zeros[..1]);
     let late = [3u64, 1, 2, 1, 1, 2];
     start(b"3 1 2 1 1 2", &late, &zeros);
+    let most = [0u64, 0, 1, 0, 0];
+    start(b"0 0 1 0 0", &most, &zeros[..5]);
     let xs = [4u64, 4, 4];
     let ys = [9u64, 8, 9];
     start(b"(4,9) (4,8) (4,9)", &xs, &ys);

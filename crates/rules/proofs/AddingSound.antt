@@ -495,7 +495,7 @@ tests-steady l s r e z = record { room = is-roomy l s r; sense = is-sound l s e;
 
 -- a steady state passes them
 pub steady-tests : (l : Limits) (s : State) → Steady l s → (roomy l s ≡ true) × (sound l s ≡ true) × (s .stage ≡ 0)
-steady-tests l s t = (roomy-true l s (t .room), sound-true l s (t .sense) (steady-fresh l s t), t .young)
+steady-tests l s t = (roomy-true l s (t .room), sound-true l s (t .sense), t .young)
 
 -- after an addition, refused or not, a state that passed 6, 7 and 5 passes them again
 pub add-keeps : (l : Limits) (g : Line3D) (s : State) → roomy l s ≡ true → sound l s ≡ true → s .stage ≡ 0

@@ -13,13 +13,13 @@ use Rattle.geometry.specs.Coordinate.{coordinate, value}
 use Rattle.geometry.proofs.Integers.{natAbs-add, natAbs-sub}
 use Rattle.geometry.proofs.Exact.{add-ofInt, sub-ofInt}
 use Rattle.geometry.proofs.Steps.{Sized, sized-mul, of-coordinate}
-use Rattle.lists.specs.Lists.{In}
+use Rattle.lists.specs.Lists.{In, Each}
 use Rattle.lists.proofs.Counts.{by-test, in-head, in-tail}
 use Rattle.lists.proofs.Members.{both}
 use Rattle.rules.specs.Limits.{Limits, Fine}
 use Rattle.rules.specs.HalfEdge.{twin}
 use Rattle.rules.specs.Cycles.{walk, cycle, halves}
-use Rattle.rules.specs.Split.{splitSuccessor}
+use Rattle.rules.specs.Split.{splitSuccessor, minimalRings}
 use Rattle.rules.specs.Face.{crossTerm, doubledArea}
 use Rattle.rules.specs.State.{State, arrangement, pointOf, soundCoordinates, sound}
 use Rattle.rules.specs.Ringing.{floatSum, floatArea}
@@ -29,7 +29,7 @@ use Rattle.rules.proofs.Twin.{twin-below}
 use Rattle.rules.proofs.Rings.{minimal-rings-are, split-permutes, each-below}
 use Rattle.rules.proofs.Soundness.{Sound, is-sound}
 use Rattle.rules.proofs.Tables.{source-below, sound-sane}
-use Rattle.rules.proofs.Claims.{ExactAreas, halved}
+use Rattle.rules.proofs.Claims.{ExactAreas, SmallAreas, halved}
 
 -- ---- the fold, step by step, with its float operations shut
 
@@ -136,6 +136,36 @@ module _ (l : Limits) (s : State) (ok : Sound l s) where
       ∙ ap (λ t. mul binary64 t (fin false 1 (negsuc 0)))
       (ap (λ t. floatSum s t ring) zero-is ∙ sum-exact square (le-refl square) ring low (pos 0) (omega (arith, fine .areas)) ∙ ap (ofInt binary64) (+ℤ-idl _))
 
+  -- no term is larger than the bound allows, so a ring's doubled area is within the floats that hold every whole number
+  area-size : l .bound * l .bound ≤ 2 ^ 53 → (ring : List ℕ) → ((h : ℕ) → In h ring → h < 2 * s .edges)
+      → natAbs (doubledArea (pointOf s) (arrangement s) ring) ≤ length ring * (2 * (l .bound * l .bound))
+  area-size small [] low = omega (arith, ap natAbs (area-none s))
+  area-size small (i ∷ ring) low =
+      let li = low i (in-head i i ring refl) in
+      let a = source-below l s ok i li in
+      let b = source-below l s ok (twin i) (twin-below (s .edges) i li) in
+      let u = value (px s (from s i)) *ℤ value (py s (from s (twin i))) in
+      let v = value (px s (from s (twin i))) *ℤ value (py s (from s i)) in
+      let d = doubledArea (pointOf s) (arrangement s) ring in
+      omega (
+        arith,
+        ap natAbs (area-step s i ring ∙ ap (λ t. t +ℤ d) (term-is s i)),
+        natAbs-add (u -ℤ v) d,
+        natAbs-sub u v,
+        product (from s i) (from s (twin i)) a b small .small,
+        product (from s (twin i)) (from s i) b a small .small,
+        area-size small ring (λ j n. low j (in-tail j i ring n)),
+      )
+
+  -- within the limits it is at most 2 ^ 53
+  area-fits : Fine l → (ring : List ℕ) → ((h : ℕ) → In h ring → h < 2 * s .edges) → length ring ≤ 2 * s .edges
+      → natAbs (doubledArea (pointOf s) (arrangement s) ring) ≤ 2 ^ 53
+  area-fits fine [] low short = omega (arith, ap natAbs (area-none s))
+  area-fits fine (i ∷ ring) low short =
+      let square = l .bound * l .bound in
+      let room : length (i ∷ ring) * (2 * square) ≤ 2 * l .edges * (2 * square) = mul-le-mul-right (2 * square) (omega (arith, ok .edges)) in
+      omega (arith, fine .areas, area-size (omega (arith, fine .areas)) (i ∷ ring) low)
+
 -- ---- the rings
 
 -- a walk is no longer than its fuel
@@ -145,15 +175,23 @@ walk-short f (suc fuel) start cur = by-test (eqb (f cur) start)
     (λ e. rw e (omega arith))
     (λ e. rw e (omega (arith, walk-short f fuel start (f cur))))
 
--- the area of each ring of a sound state is exact
-pub exact-areas : (l : Limits) → Fine l → (s : State) → sound l s ≡ true → ExactAreas s
+-- each ring of a sound state holds half-edges, and no more than there are
+each-ring : (l : Limits) (s : State) → sound l s ≡ true → (P : List ℕ → Type 0)
+    → ((r : List ℕ) → ((h : ℕ) → In h r → h < 2 * s .edges) → length r ≤ 2 * s .edges → P r) → Each P (minimalRings (arrangement s))
 unfolding arrangement cycle
-exact-areas l fine s e =
-    let ok = is-sound l s e in
+each-ring l s e P holds =
     let g = arrangement s in
-    let sane = sound-sane l s ok in
+    let sane = sound-sane l s (is-sound l s e) in
     let f = splitSuccessor g in
     rw (minimal-rings-are g) (each-below _ (cycle f (halves g)) _ (halves g) (λ k q t.
-    area-exact l s ok fine (cycle f (halves g) k)
+    holds (cycle f (halves g) k)
     (λ h m. cycle-live f (halves g) (g .active) (split-permutes g sane) k h (q, true-start f (halves g) (g .active) k t .0) m .0)
     (walk-short f (halves g) k k)))
+
+-- the area of each ring of a sound state is exact
+pub exact-areas : (l : Limits) → Fine l → (s : State) → sound l s ≡ true → ExactAreas s
+exact-areas l fine s e = each-ring l s e _ (area-exact l s (is-sound l s e) fine)
+
+-- and its doubled area is small enough
+pub small-areas : (l : Limits) → Fine l → (s : State) → sound l s ≡ true → SmallAreas s
+small-areas l fine s e = each-ring l s e _ (area-fits l s (is-sound l s e) fine)

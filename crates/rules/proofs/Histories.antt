@@ -11,7 +11,7 @@ use Rattle.lists.specs.Lists.{upto, flatten, over}
 use Rattle.rules.specs.Keys.{keyOf}
 use Rattle.rotation.specs.Rotation.{keySame}
 use Rattle.rules.specs.Limits.{Limits, Fine, limits}
-use Rattle.rules.specs.State.{State, arrangement, pointOf, roomy, sound}
+use Rattle.rules.specs.State.{State, pointOf, roomy, sound}
 use Rattle.geometry.specs.declared.Line3D.{Line3D}
 use Rattle.rules.specs.Adding.{Outcome, findHalf, Nothing, add}
 use Rattle.geometry.specs.Angle.{planar}
@@ -24,13 +24,13 @@ use Rattle.rules.proofs.Soundness.{Roomy, Sound, is-roomy, is-sound}
 use Rattle.rules.proofs.Sketches.{Good}
 use Rattle.rules.proofs.SketchCalls.{remark-length, remark-from, remark-to, good-feed, good-empty}
 use Rattle.rules.proofs.Claims.{AllFollow, claim, sound-claim}
-use Rattle.rules.proofs.Following.{Tracks, tracks-agree, remarked, tracks-cut, tracks-reset, tracks-ring}
+use Rattle.rules.proofs.Following.{Tracks, remarked, tracks-cut, tracks-reset, tracks-ring}
 use Rattle.rules.proofs.FollowingPrune.{tracks-prune}
 use Rattle.rules.proofs.Sorting.{star-sorted}
 use Rattle.rules.proofs.Joining.{half-joins}
 use Rattle.rules.proofs.Simple.{Simple, sorted-star-sketch}
 use Rattle.rules.proofs.Additions.{Fits, demand-fits, u, v, nu, nv, k₂, sketch-is, old-sketch, new-simple, new-tracks}
-use Rattle.rules.proofs.Areas.{exact-areas}
+use Rattle.rules.proofs.Areas.{exact-areas, small-areas}
 
 -- either way of a test
 cond-fits : {A L : Type 0} (c : Call) (k : Sketch) (b : Bool) (x y : Outcome A L) → (b ≡ true → Fits c k x) → (b ≡ false → Fits c k y) → Fits c k (cond b x y)
@@ -211,7 +211,7 @@ module _ (l : Limits) (fine : Fine l) where
   history-together (c ∷ cs) real w r = history-together cs (real .1) (turnWorld l c w) (call-together c (real .0) w r)
 
   -- a new graph and an empty sketch
-  start-together : (s : State) → s .nodes ≡ 0 → s .edges ≡ 0 → s .stage ≡ 0 → Together (record { state = s; sketch = emptySketch })
+  pub start-together : (s : State) → s .nodes ≡ 0 → s .edges ≡ 0 → s .stage ≡ 0 → Together (record { state = s; sketch = emptySketch })
   start-together s n e y = record {
     tracks = record {
       nodes = n;
@@ -235,19 +235,16 @@ module _ (l : Limits) (fine : Fine l) where
 
   -- from a new graph on the tables follow the sketch
   pub all-follow : AllFollow l
-  unfolding arrangement
   all-follow s n e y room calls real ok stage =
-      let w = history l calls (record { state = s; sketch = emptySketch }) in
-      let r = history-together calls real (record { state = s; sketch = emptySketch }) (start-together s n e y) in
-      (tracks-agree (w .state) (w .sketch) (r .tracks) (omega arith), r .tracks .points)
+      history-together calls real (record { state = s; sketch = emptySketch }) (start-together s n e y) .tracks
 
   -- the one claim about lists of calls
   pub whole-claim : Claim l
-  whole-claim = claim l (exact-areas l fine) all-follow
+  whole-claim = claim l (exact-areas l fine) (small-areas l fine) all-follow
 
   -- and the claim for all sound tables
   pub whole-sound-claim : SoundClaim l
-  whole-sound-claim = sound-claim l (exact-areas l fine)
+  whole-sound-claim = sound-claim l (exact-areas l fine) (small-areas l fine)
 
 -- the limits of this library are fine enough
 pub fine-limits : Fine limits

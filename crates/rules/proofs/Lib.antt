@@ -38,17 +38,38 @@ pub mod Growing
 pub mod Joining
 pub mod Additions
 pub mod Histories
+-- the face to the left
+pub mod LeftFaces
+pub mod LeftOnly
+pub mod LeftSketches
+pub mod Mirrored
 -- what pruning leaves
 pub mod Dangles
 pub mod PruneEnds
 pub mod PrunedTables
+-- pruning in any order
+pub mod AnyOrder
+pub mod PruneOrder
+pub mod PrunedEdges
+pub mod PrunedLines
+pub mod LooseEnds
 -- pieces: nodes that paths join, and their numbers
 pub mod Values
 pub mod Spreading
 pub mod Roots
 pub mod PieceCounts
+pub mod CountsAgree
+pub mod EulerFormulas
 pub mod Orders
 pub mod PieceNumbers
 -- a state stays sound through an addition
 pub mod Sounding
 pub mod AddingSound
+-- every call keeps the tables long enough and sound
+pub mod Staying
+pub mod Sparing
+pub mod Going
+-- files as calls
+pub mod Filing
+pub mod FileFloats
+pub mod FileTests

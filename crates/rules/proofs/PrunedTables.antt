@@ -20,7 +20,7 @@ use Rattle.rules.proofs.Pruning.{pruned-is, prune-size, prune-degrees-s
 use Rattle.rules.proofs.PruneEnds.{Pruned, prune-leaves}
 
 -- what is not marked is so whatever stands past the end
-unmarked-any : (ms : List Bool) (i : ℕ) → getD ms i true ≡ false → getD ms i false ≡ false
+pub unmarked-any : (ms : List Bool) (i : ℕ) → getD ms i true ≡ false → getD ms i false ≡ false
 unmarked-any [] i q = refl
 unmarked-any (m ∷ ms) zero q = q
 unmarked-any (m ∷ ms) (suc i) q = unmarked-any ms i q

@@ -4,7 +4,7 @@ use mathlib.Core.Path.{_≡_, refl, sym, ap, ap₂, _∙_}
 use mathlib.Core.Bool.{Bool, true, false, _&&_, _||_, Bool·beq, not}
 use lib.Dec.{ltb, leb}
 use lib.ListN.{getD}
-use borrow.Author.Tests.{eq-eqb, ne-eqb, lt-ltb, le-leb}
+use borrow.Author.Tests.{eq-eqb, ne-eqb, lt-ltb, le-leb, ltb-false}
 use Rattle.lists.specs.Lists.{upto, all}
 use Rattle.lists.proofs.Passing.{all-upto}
 use Rattle.rules.specs.Limits.{Limits}
@@ -15,10 +15,10 @@ use Rattle.rules.proofs.Soundness.{Roomy, SoundEnds, Fresh, Sound}
 pub and-true : (a b : Bool) → a ≡ true → b ≡ true → (a && b) ≡ true
 and-true a b p q = ap₂ (λ x y. x && y) p q
 
--- the second of two tests passes
-or-true : (a b : Bool) → b ≡ true → (a || b) ≡ true
+-- one of two tests passes
+or-true : (a b : Bool) → (a ≡ false → b ≡ true) → (a || b) ≡ true
 or-true true b e = refl
-or-true false b e = e
+or-true false b e = e refl
 
 -- a mark is like itself
 same-mark : (a b : Bool) → a ≡ b → Bool·beq a b ≡ true
@@ -62,13 +62,13 @@ twins-true : (s : State) (k : ℕ) → getD (s .halfMark) (2 * k) true ≡ getD 
 unfolding soundTwins
 twins-true s k e = same-mark _ _ e
 
--- number 7, in stages 0 and 1
-pub sound-true : (l : Limits) (s : State) → Sound l s → Fresh s → sound l s ≡ true
+-- number 7
+pub sound-true : (l : Limits) (s : State) → Sound l s → sound l s ≡ true
 unfolding soundStar
-sound-true l s r f =
+sound-true l s r =
     sym (sound-of l s)
     ∙ and-true _ _ (le-leb _ _ (r .nodes)) (and-true _ _ (le-leb _ _ (r .edges)) (and-true _ _ (le-leb _ _ (r .stage))
     (and-true _ _ (all-upto (soundEnds s) (s .edges) (λ k l. ends-true s k (r .ends k l)))
     (and-true _ _ (all-upto (soundTwins s) (s .edges) (λ k l. twins-true s k (r .twins k l)))
     (and-true _ _ (all-upto (soundStar s) (2 * s .edges) (λ h l. eq-eqb _ _ (r .stars h l)))
-    (and-true _ _ (all-upto (soundCoordinates l s) (s .nodes) (λ n h. r .coordinates n h)) (or-true (ltb 1 (s .stage)) (fresh s) (fresh-true s f))))))))
+    (and-true _ _ (all-upto (soundCoordinates l s) (s .nodes) (λ n h. r .coordinates n h)) (or-true (ltb 1 (s .stage)) (fresh s) (λ e. fresh-true s (r .new (ltb-false 1 (s .stage) e))))))))))

@@ -5,11 +5,14 @@ pub mod Keys
 pub mod Angle
 pub mod Cycles
 pub mod Sane
+pub mod LeftFace
 pub mod Split
 pub mod Prune
 pub mod Counted
+pub mod AnyOrder
 pub mod Euler
 pub mod Paths
+pub mod EulerFormula
 pub mod Face
 pub mod State
 pub mod Pieces
@@ -19,4 +22,6 @@ pub mod Ringing
 pub mod SegmentFile
 pub mod Sketch
 pub mod Claim
+pub mod Going
+pub mod Filing
 pub mod Worked

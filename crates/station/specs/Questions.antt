@@ -52,7 +52,7 @@ toldOrder reply (success o) = record { number = 0; reply = over (orderNumber o �
 
 -- slices of unequal lengths are no ring: 8
 abbrev pub toldStart : List ℕ → RotationStart → Told
-toldStart reply (At i) = record { number = 0; reply = over (i ∷ []) reply }
+toldStart reply (At i n) = record { number = 0; reply = over (i ∷ []) reply }
 toldStart reply LengthsDiffer = record { number = 8; reply = reply }
 
 -- 8 where there is no room for the answer

@@ -147,7 +147,7 @@ pub extern "C" fn tukmiheb_minimum_rotation_index(
     }
     match rotation::minimum_rotation_index(xs, ys) {
         RotationStart::LengthsDiffer => REPLY_TOO_SHORT,
-        RotationStart::At(start) => {
+        RotationStart::At(start, _) => {
             reply[0] = start;
             0
         }

@@ -8,6 +8,7 @@ use borrow.Author.Tests.{eq-eqb}
 use Rattle.rotation.specs.declared.RotationStart.{RotationStart}
 use Rattle.rotation.specs.declared.RotationStart.the-variants.{At, LengthsDiffer}
 use Rattle.rotation.specs.Rotation.{keysOf, leastRotation}
+use Rattle.rotation.specs.Steps.{comparisons}
 use Rattle.rotation.specs.Answers.{startAt, rotationStart}
 use Rattle.rotation.proofs.Least.{least-rotation}
 use Rattle.faces.specs.Listed.{partOf}
@@ -18,13 +19,13 @@ use Rattle.faces.proofs.keys.turn_of.Tie as tie
 
 -- the place that was found
 abbrev place : RotationStart → ℕ
-place (At i) = i
+place (At i n) = i
 place LengthsDiffer = 0
 
 -- of two lists of one length it is where the least rotation starts
 place-is : (xs ys : List ℕ) → length xs ≡ length ys → place (rotationStart xs ys) ≡ leastRotation (keysOf xs ys)
 unfolding rotationStart
-place-is xs ys e = ap (λ b. place (startAt b (leastRotation (keysOf xs ys)))) (eq-eqb (length xs) (length ys) e)
+place-is xs ys e = ap (λ b. place (startAt b (leastRotation (keysOf xs ys)) (comparisons (keysOf xs ys)))) (eq-eqb (length xs) (length ys) e)
 
 add-end : tie.Need-add-end
 add-end c = omega (arith, keys-within (c .before .before .args .xs .now) (c .before .before .args .ys .now))
