@@ -118,6 +118,13 @@ pub fn pairs(points: &[Point]) -> Vec<Segment> {
     pairs
 }
 
+/// The segments of a map for which the mask has a one, the lowest for the first.
+pub fn chosen(mask: u32, map: &[Segment]) -> Vec<Segment> {
+    let numbered = map.iter().enumerate();
+    let chosen = numbered.filter(|(place, _)| mask >> place & 1 == 1);
+    chosen.map(|(_, &segment)| segment).collect()
+}
+
 /// So many segments between random points of a square.
 pub fn random_map(edges: usize, points: usize, size: i32, random: &mut Random) -> Vec<Segment> {
     let coordinate = |random: &mut Random| random.below(2 * size as usize + 1) as i32 - size;

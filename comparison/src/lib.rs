@@ -8,7 +8,7 @@ pub mod random;
 
 mod library;
 
-pub use library::{lend, Library};
+pub use library::{lend, lend_lists, Library};
 
 use oracle::calls::{self, Line};
 use oracle::rules;
@@ -55,6 +55,11 @@ impl Comparison {
         [state.nodes.into(), state.edges.into()]
     }
 
+    /// The library's state and the oracle's.
+    pub fn states(&self) -> [&State; 2] {
+        [self.library.state(), self.oracle.state()]
+    }
+
     /// Runs a call list on both sides. Where they differ, it ends the test and prints the list as
     /// far as it was run.
     pub fn run(&mut self, lines: &[Line]) {
@@ -87,7 +92,7 @@ impl Comparison {
         let oracle = self.oracle.call(call, lent);
         self.tally.calls += 1;
         self.tally.refused += usize::from(matches!(oracle, Reply::Refused(_)));
-        let ringed = matches!(oracle, Reply::Rings(..));
+        let ringed = matches!(oracle, Reply::Rings { .. });
         self.tally.tied += usize::from(ringed && rules::has_ties(self.oracle.named()));
         match difference([library, oracle], &self.library, &self.oracle) {
             Some(why) => Err(why),

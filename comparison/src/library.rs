@@ -1,6 +1,6 @@
 //! The library as one side of the comparison.
 
-use oracle::state::{Call, Census, Lent, Reply, Side, State, Tables};
+use oracle::state::{Call, Census, Lent, Lists, Reply, Side, State, Tables};
 use tukmiheb::entries::{self, RingLists};
 use tukmiheb::Refusal;
 
@@ -33,16 +33,7 @@ impl Side for Library {
             lists,
         } = &mut self.state;
         let mut small = [*nodes, *edges, *stage];
-        let [listed, half_edges, first, length, face, side, area] = lent.lists;
-        let listed = &mut lists.edges[..listed];
-        let mut rings = RingLists {
-            half_edges: &mut lists.half_edges[..half_edges],
-            first: &mut lists.ring_first[..first],
-            length: &mut lists.ring_length[..length],
-            face: &mut lists.ring_face[..face],
-            side: &mut lists.ring_side[..side],
-            area: &mut lists.ring_area[..area],
-        };
+        let (listed, mut rings) = lend_lists(lists, lent);
         let answered = answer(
             call,
             &mut small,
@@ -63,42 +54,40 @@ fn answer(
     listed: &mut [u16],
     rings: &mut RingLists,
 ) -> Result<Reply, Refusal> {
-    let mut reply = [u16::MAX; 6];
-    Ok(match call {
-        Call::Create => {
-            entries::create(state, tables)?;
-            Reply::Created
-        }
+    let mut reply = [u16::MAX; 7];
+    match call {
+        Call::Create => entries::create(state, tables)?,
         Call::Add(line) => {
             let (a, b) = (line.start, line.end);
             let values = [a.x, a.y, a.z, b.x, b.y, b.z];
             entries::add_line(state, &values, line.line_id, tables, &mut reply[..2])?;
-            Reply::Edge {
-                edge: reply[0],
-                new: flag(reply[1]),
-            }
         }
-        Call::Sort => {
-            entries::sort_edges(state, tables)?;
-            Reply::Done
-        }
-        Call::Prune => {
-            entries::prune_dangles(state, tables, listed, &mut reply[..1])?;
-            Reply::Dangles(reply[0])
-        }
-        Call::Cut => {
-            entries::delete_cut_edges(state, tables, listed, &mut reply)?;
-            Reply::Cuts(reply[0], census(reply))
-        }
-        Call::Rings => {
-            entries::extract_rings(state, tables, rings, &mut reply)?;
-            Reply::Rings(reply[0], census(reply))
-        }
-        Call::Reset => {
-            entries::reset(state, tables)?;
-            Reply::Done
-        }
-    })
+        Call::Sort => entries::sort_edges(state, tables)?,
+        Call::Prune => entries::prune_dangles(state, tables, listed, &mut reply[..1])?,
+        Call::Cut => entries::delete_cut_edges(state, tables, listed, &mut reply[..6])?,
+        Call::Rings => entries::extract_rings(state, tables, rings, &mut reply)?,
+        Call::Reset => entries::reset(state, tables)?,
+    }
+    Ok(granted(call, reply))
+}
+
+/// The reply to a call that was not refused, by its numbers.
+fn granted(call: &Call, [count, counts @ .., comparisons]: [u16; 7]) -> Reply {
+    match call {
+        Call::Create => Reply::Created,
+        Call::Add(_) => Reply::Edge {
+            edge: count,
+            new: flag(counts[0]),
+        },
+        Call::Sort | Call::Reset => Reply::Done,
+        Call::Prune => Reply::Dangles(count),
+        Call::Cut => Reply::Cuts(count, census(counts)),
+        Call::Rings => Reply::Rings {
+            count,
+            census: census(counts),
+            comparisons,
+        },
+    }
 }
 
 fn flag(number: u16) -> bool {
@@ -106,7 +95,7 @@ fn flag(number: u16) -> bool {
     number == 1
 }
 
-fn census([_, vertices, edges, cycles, pieces, verdict]: [u16; 6]) -> Census {
+fn census([vertices, edges, cycles, pieces, verdict]: [u16; 5]) -> Census {
     Census {
         vertices,
         edges,
@@ -136,4 +125,18 @@ pub fn lend<'a>(tables: &'a mut Tables, lent: &Lent) -> entries::Tables<'a> {
         dir_edges_marked: &mut tables.dir_edges_marked[..half],
         nodes_outgoing: &mut tables.nodes_outgoing[..star],
     }
+}
+
+/// The result lists as they are lent: the one for edges, and the six for rings.
+pub fn lend_lists<'a>(lists: &'a mut Lists, lent: &Lent) -> (&'a mut [u16], RingLists<'a>) {
+    let [edges, half_edges, first, length, face, side, area] = lent.lists;
+    let rings = RingLists {
+        half_edges: &mut lists.half_edges[..half_edges],
+        first: &mut lists.ring_first[..first],
+        length: &mut lists.ring_length[..length],
+        face: &mut lists.ring_face[..face],
+        side: &mut lists.ring_side[..side],
+        area: &mut lists.ring_area[..area],
+    };
+    (&mut lists.edges[..edges], rings)
 }

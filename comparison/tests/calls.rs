@@ -148,5 +148,5 @@ fn each_list() {
         assert_eq!(both.call(&Call::Rings, &lent), Ok(Reply::Refused(8)));
     }
     let last = both.call(&Call::Rings, &Lent::of_length(24));
-    assert!(matches!(last, Ok(Reply::Rings(5, _))));
+    assert!(matches!(last, Ok(Reply::Rings { count: 5, .. })));
 }

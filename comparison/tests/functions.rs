@@ -1,12 +1,15 @@
 //! The functions beside the graph: the angular order, the least rotation, records of a segment
-//! file; and slices that are too short for what an entry reads or answers.
+//! file; and slices that are too short, or longer than need be, for what an entry reads or answers.
 
-use comparison::inputs::{self, BOUND};
+use comparison::inputs::{self, BOUND, STEPS};
 use comparison::random::Random;
+use oracle::calls::Line;
+use oracle::rotation::{self, Rotation};
 use oracle::stand_ins::Coord;
-use oracle::state::{Lent, State, LIST_LENGTH};
-use oracle::{listing, rules};
-use tukmiheb::entries::{self, RingLists};
+use oracle::state::{Call, Lent, Reply, Side, State};
+use oracle::{listing, rules, Oracle};
+use std::fmt::Debug;
+use tukmiheb::entries;
 use tukmiheb::Refusal;
 
 fn angular_order(points: [f64; 6]) {
@@ -61,15 +64,17 @@ fn angular_orders() {
 fn least_rotation(keys: &[[u64; 2]]) {
     let xs: Vec<u64> = keys.iter().map(|key| key[0]).collect();
     let ys: Vec<u64> = keys.iter().map(|key| key[1]).collect();
-    let mut reply = [usize::MAX; 2];
+    let mut reply = [usize::MAX; 3];
     assert_eq!(
         entries::minimum_rotation_index(&xs, &ys, &mut reply),
         Ok(())
     );
-    assert_eq!(reply, [rules::least_rotation(keys), usize::MAX], "{keys:?}");
+    let Rotation { place, comparisons } = rotation::least_rotation(keys);
+    assert_eq!(reply, [place, comparisons, usize::MAX], "{keys:?}");
 }
 
-/// All rings of up to nine keys of three kinds; then longer ones, periodic or not.
+/// All rings of up to nine keys of three kinds; then longer ones, periodic or not. The place and
+/// the comparisons are those of the original's own search.
 #[test]
 fn least_rotations() {
     let kinds = [[1, 1], [1, 2], [2, 0]];
@@ -96,11 +101,11 @@ fn least_rotations() {
 
 #[test]
 fn rotations_of_unequal_lengths() {
-    let mut reply = [7];
+    let mut reply = [7; 2];
     for (xs, ys) in [(0, 1), (1, 0), (5, 4), (4, 5)] {
         let answered = entries::minimum_rotation_index(&[1; 9][..xs], &[1; 9][..ys], &mut reply);
         assert_eq!(answered, Err(Refusal::ListTooShort));
-        assert_eq!(reply, [7]);
+        assert_eq!(reply, [7; 2]);
     }
 }
 
@@ -153,77 +158,132 @@ fn records() {
     }
 }
 
-/// Slices that the entries need beside tables and lists, one entry short.
-#[test]
-fn short_slices() {
-    let mut state = State::default();
-    let mut tables = comparison::lend(&mut state.tables, &Lent::FULL);
-    let tables = &mut tables;
-    let mut listed = vec![0; LIST_LENGTH];
-    let mut lists = State::default().lists;
-    let mut rings = RingLists {
-        half_edges: &mut lists.half_edges,
-        first: &mut lists.ring_first,
-        length: &mut lists.ring_length,
-        face: &mut lists.ring_face,
-        side: &mut lists.ring_side,
-        area: &mut lists.ring_area,
-    };
-    let line = [0.0, 0.0, 0.0, 1.0, 0.0, 0.0];
-    let short = Err(Refusal::TableTooShort);
-    let small = &mut [0; 2];
-    assert_eq!(entries::create(small, tables), short);
-    assert_eq!(
-        entries::add_line(small, &line, 1, tables, &mut [0; 2]),
-        short
-    );
-    assert_eq!(entries::add_records(small, &[], tables, &mut [0; 2]), short);
-    assert_eq!(entries::sort_edges(small, tables), short);
-    assert_eq!(
-        entries::prune_dangles(small, tables, &mut listed, &mut [0]),
-        short
-    );
-    assert_eq!(
-        entries::delete_cut_edges(small, tables, &mut listed, &mut [0; 6]),
-        short
-    );
-    assert_eq!(
-        entries::extract_rings(small, tables, &mut rings, &mut [0; 6]),
-        short
-    );
-    assert_eq!(entries::reset(small, tables), short);
+const LINE: [f64; 6] = [0.0, 0.0, 0.0, 1.0, 0.0, 0.0];
 
-    let no_room = Err(Refusal::ListTooShort);
+/// The counts and the stage with an entry too few.
+#[test]
+fn short_states() {
+    let mut state = State::default();
+    let tables = &mut comparison::lend(&mut state.tables, &Lent::FULL);
+    let (listed, mut rings) = comparison::lend_lists(&mut state.lists, &Lent::FULL);
+    let rings = &mut rings;
+    let small = &mut [0; 2];
+    let answers = [
+        entries::create(small, tables),
+        entries::add_line(small, &LINE, 1, tables, &mut [0; 2]),
+        entries::add_records(small, &[], tables, &mut [0; 2]),
+        entries::sort_edges(small, tables),
+        entries::prune_dangles(small, tables, listed, &mut [0; 1]),
+        entries::delete_cut_edges(small, tables, listed, &mut [0; 6]),
+        entries::extract_rings(small, tables, rings, &mut [0; 7]),
+        entries::reset(small, tables),
+    ];
+    assert_eq!(answers, [Err(Refusal::TableTooShort); 8]);
+}
+
+/// Replies with an entry too few, and the six values of a segment.
+#[test]
+fn short_replies() {
+    let mut state = State::default();
+    let tables = &mut comparison::lend(&mut state.tables, &Lent::FULL);
+    let (listed, mut rings) = comparison::lend_lists(&mut state.lists, &Lent::FULL);
+    let rings = &mut rings;
     let small = &mut [0; 3];
-    assert_eq!(
-        entries::add_line(small, &line, 1, tables, &mut [0; 1]),
-        no_room
-    );
-    assert_eq!(
+    let answers = [
+        entries::add_line(small, &LINE, 1, tables, &mut [0; 1]),
         entries::add_records(small, &[], tables, &mut [0; 1]),
-        no_room
-    );
-    assert_eq!(
-        entries::prune_dangles(small, tables, &mut listed, &mut []),
-        no_room
-    );
-    assert_eq!(
-        entries::delete_cut_edges(small, tables, &mut listed, &mut [0; 5]),
-        no_room
-    );
-    assert_eq!(
-        entries::extract_rings(small, tables, &mut rings, &mut [0; 5]),
-        no_room
-    );
-    assert_eq!(entries::compare_angular(&line, &mut []), no_room);
-    assert_eq!(entries::minimum_rotation_index(&[], &[], &mut []), no_room);
-    assert_eq!(
+        entries::prune_dangles(small, tables, listed, &mut []),
+        entries::delete_cut_edges(small, tables, listed, &mut [0; 5]),
+        entries::extract_rings(small, tables, rings, &mut [0; 6]),
+        entries::compare_angular(&LINE, &mut []),
+        entries::minimum_rotation_index(&[], &[], &mut [0; 1]),
         entries::read_record(&[], 0, &mut [0.0; 6], &mut [0; 2]),
-        no_room
-    );
-    assert_eq!(
         entries::read_record(&[], 0, &mut [0.0; 5], &mut [0; 3]),
-        no_room
-    );
+    ];
+    assert_eq!(answers, [Err(Refusal::ListTooShort); 9]);
     assert_eq!(small, &[0; 3]);
+}
+
+/// Asks with replies of every length up to a few more than the answer has. A shorter one is refused
+/// and keeps its entries, a longer one keeps those past the answer.
+fn reply_of_every_length<T: Copy + Debug + PartialEq>(
+    answer: &[T],
+    unwritten: T,
+    mut ask: impl FnMut(&mut [T]) -> Result<(), Refusal>,
+) {
+    for length in 0..answer.len() + 4 {
+        let mut reply = vec![unwritten; length];
+        let mut expected = reply.clone();
+        let answered = ask(&mut reply);
+        if length < answer.len() {
+            assert_eq!(answered, Err(Refusal::ListTooShort));
+        } else {
+            assert_eq!(answered, Ok(()));
+            expected[..answer.len()].copy_from_slice(answer);
+        }
+        assert_eq!(reply, expected);
+    }
+}
+
+/// The place and the comparisons.
+#[test]
+fn lengths_of_the_rotation_reply() {
+    reply_of_every_length(&[1, 6], usize::MAX, |reply| {
+        entries::minimum_rotation_index(&[2, 1, 2, 1], &[0; 4], reply)
+    });
+}
+
+/// The count, the five numbers of the census, and the comparisons. Where the reply is refused, so
+/// is the call: the state stays, and else it is the oracle's.
+#[test]
+fn lengths_of_the_ring_reply() {
+    let mut oracle = Oracle::default();
+    let mut lines = inputs::traced(&inputs::grid(2, 2, 1));
+    lines.extend(STEPS[..3].iter().map(|&step| Line::Call(step)));
+    for line in lines {
+        if let Line::Call(call) = line {
+            oracle.call(&call, &Lent::FULL);
+        }
+    }
+    let cut = oracle.state().clone();
+    let answer = ring_numbers(oracle.call(&Call::Rings, &Lent::FULL));
+    reply_of_every_length(&answer, u16::MAX, |reply| {
+        let mut state = cut.clone();
+        let answered = extract_rings(&mut state, reply);
+        let expected = if answered.is_ok() {
+            oracle.state()
+        } else {
+            &cut
+        };
+        assert_eq!(state.difference(expected), None);
+        answered
+    });
+}
+
+fn ring_numbers(reply: Reply) -> [u16; 7] {
+    match reply {
+        Reply::Rings {
+            count,
+            census,
+            comparisons,
+        } => [
+            count,
+            census.vertices,
+            census.edges,
+            census.cycles,
+            census.pieces,
+            census.verdict.into(),
+            comparisons,
+        ],
+        _ => panic!("{reply:?}"),
+    }
+}
+
+fn extract_rings(state: &mut State, reply: &mut [u16]) -> Result<(), Refusal> {
+    let mut small = [state.nodes, state.edges, state.stage];
+    let tables = &mut comparison::lend(&mut state.tables, &Lent::FULL);
+    let (_, mut rings) = comparison::lend_lists(&mut state.lists, &Lent::FULL);
+    let answered = entries::extract_rings(&mut small, tables, &mut rings, reply);
+    [state.nodes, state.edges, state.stage] = small;
+    answered
 }

@@ -14,9 +14,7 @@ fn all_edge_sets_on_six_points() {
     let segments = inputs::pairs(&points);
     assert_eq!(segments.len(), 15);
     for mask in 0..1u32 << 15 {
-        let chosen = segments.iter().enumerate();
-        let chosen = chosen.filter(|(place, _)| mask >> place & 1 == 1);
-        let map: Vec<Segment> = chosen.map(|(_, &segment)| segment).collect();
+        let map = inputs::chosen(mask, &segments);
         both.run(&inputs::whole_run(&inputs::shuffled(map, &mut random)));
     }
     println!("{:?}", both.tally);

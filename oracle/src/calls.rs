@@ -139,9 +139,14 @@ fn answered(reply: &Reply, state: &State) -> String {
         Reply::Cuts(count, census) => {
             format!("cuts {count}{} {census}\n", listed(count, state))
         }
-        Reply::Rings(count, census) => {
+        Reply::Rings {
+            count,
+            census,
+            comparisons,
+        } => {
             let rings = (0..usize::from(count)).map(|ring| ring_line(ring, state));
-            format!("rings {count} {census}\n{}", rings.collect::<String>())
+            let rings: String = rings.collect();
+            format!("rings {count} {census} comparisons {comparisons}\n{rings}")
         }
     }
 }

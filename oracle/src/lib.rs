@@ -11,6 +11,7 @@ pub mod calls;
 pub mod listing;
 pub mod oracle;
 pub mod original;
+pub mod rotation;
 pub mod rules;
 pub mod stand_ins;
 pub mod state;

@@ -90,7 +90,7 @@ fn extracted(side: &mut impl Side) -> String {
         match side.call(&call, &Lent::FULL) {
             Reply::Dangles(count) => listed[0] = count.into(),
             Reply::Cuts(count, _) => listed[1] = count.into(),
-            Reply::Rings(count, census) => {
+            Reply::Rings { count, census, .. } => {
                 listed[2] = count.into();
                 euler = census.verdict;
             }

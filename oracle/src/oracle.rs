@@ -2,6 +2,7 @@
 
 use crate::original::steps::{self, Ring};
 use crate::original::{Coord3D, DirectedEdge, Edge, Line3D, NodeKey, PlanarGraph};
+use crate::rotation::least_rotation;
 use crate::rules::{self, Named};
 use crate::stand_ins::{Coord, EdgeSources};
 use crate::state::{Call, Lent, Lists, Reply, Side, State, Tables};
@@ -68,8 +69,13 @@ impl Oracle {
             Call::Rings => {
                 let (rings, census) = steps::rings(&mut self.graph);
                 let count = rings.len() as u16;
+                let comparisons = comparisons(&self.graph, &rings);
                 self.named = put_rings(rings, lists);
-                Reply::Rings(count, census)
+                Reply::Rings {
+                    count,
+                    census,
+                    comparisons,
+                }
             }
             Call::Reset => {
                 self.graph.reset_traversal_state();
@@ -149,6 +155,27 @@ fn put_rings(rings: Vec<Ring>, lists: &mut Lists) -> Vec<Named> {
         *entry = face as u16;
     }
     named
+}
+
+/// How often naming the rings compared two entries. The original searches each ring once, from its
+/// lowest half-edge, where the ring begins; the same searches are made again, and counted.
+fn comparisons(graph: &PlanarGraph, rings: &[Ring]) -> u16 {
+    let of_ring = |ring: &Ring| {
+        let mut entries = ring_entries(graph, ring);
+        let rotation = least_rotation(&entries);
+        entries.rotate_left(rotation.place);
+        assert_eq!(entries, ring.key, "another key than the original's");
+        rotation.comparisons
+    };
+    rings.iter().map(of_ring).sum::<usize>() as u16
+}
+
+/// A ring's key as it is searched: the bits of its starting nodes, not turned yet.
+fn ring_entries(graph: &PlanarGraph, ring: &Ring) -> Vec<[u64; 2]> {
+    let sources = ring.half_edges.iter();
+    let nodes = sources.map(|&half| graph.directed_edges[half].src);
+    let points = nodes.map(|node| Coord3D::new(graph.nodes_x[node], graph.nodes_y[node], 0.0));
+    points.map(rules::key).collect()
 }
 
 /// 0 flat, 1 enclosed, 2 open.

@@ -1,8 +1,7 @@
 //! Document 01's own rules, which the original has not: refusals 1 to 11 in their order, the
 //! stages, room, the soundness list, and ties in face naming.
 
-use crate::original::{canonical_coordinate_bits, compare_angular, minimum_rotation_index};
-use crate::original::{Coord3D, Line3D};
+use crate::original::{canonical_coordinate_bits, compare_angular, Coord3D, Line3D};
 use crate::stand_ins::Coord;
 use crate::state::{Call, Lent, State, EDGE_LIMIT, LEAST_LENGTHS, NODE_LIMIT};
 use std::cmp::Ordering;
@@ -107,7 +106,8 @@ pub fn is_coordinate(value: f64) -> bool {
     value.abs() <= COORDINATE_BOUND && value.trunc() == value
 }
 
-fn key(point: Coord3D) -> [u64; 2] {
+/// The canonical bits of a point's x and y: equal exactly where points are one node.
+pub fn key(point: Coord3D) -> [u64; 2] {
     [
         canonical_coordinate_bits(point.x),
         canonical_coordinate_bits(point.y),
@@ -220,11 +220,6 @@ pub fn compare_points(
     let whole = |point: Coord<f64>| is_coordinate(point.x) && is_coordinate(point.y);
     demand(whole(centre) && whole(a) && whole(b), Refusal::NotWhole)?;
     Ok(compare_angular(centre, a, b))
-}
-
-/// Where the least rotation of a ring of keys starts.
-pub fn least_rotation(keys: &[[u64; 2]]) -> usize {
-    minimum_rotation_index(keys)
 }
 
 /// How the original names a ring: by its key and area, with this number. Rings come in the order of

@@ -133,7 +133,12 @@ pub enum Reply {
     Done,
     Dangles(u16),
     Cuts(u16, Census),
-    Rings(u16, Census),
+    Rings {
+        count: u16,
+        census: Census,
+        /// How often the least-rotation searches of all rings compared two entries.
+        comparisons: u16,
+    },
 }
 
 /// One side of a comparison.
@@ -199,7 +204,7 @@ impl State {
     pub fn written(&self, reply: &Reply) -> [usize; 7] {
         match *reply {
             Reply::Dangles(count) | Reply::Cuts(count, _) => [usize::from(count), 0, 0, 0, 0, 0, 0],
-            Reply::Rings(count, _) => {
+            Reply::Rings { count, .. } => {
                 let count = usize::from(count).min(self.lists.ring_length.len());
                 let lengths = &self.lists.ring_length[..count];
                 let half_edges = lengths.iter().map(|&length| usize::from(length)).sum();

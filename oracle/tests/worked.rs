@@ -1,7 +1,8 @@
 //! Document 01's tracings worked by hand, P1 to P10, and its listing.
 
 use oracle::original::{Coord3D, Line3D};
-use oracle::{calls, listing, rules, Oracle};
+use oracle::rotation::{least_rotation, Rotation};
+use oracle::{calls, listing, Oracle};
 
 /// What the oracle prints for a call list.
 fn answers(list: &str) -> String {
@@ -24,7 +25,9 @@ fn traced(lines: &[[i32; 4]]) -> String {
 fn p1_empty_graph() {
     assert_eq!(
         traced(&[]),
-        "dangles 0\ncuts 0 census 0 0 0 0 yes\nrings 0 census 0 0 0 0 yes\n"
+        "dangles 0\n\
+         cuts 0 census 0 0 0 0 yes\n\
+         rings 0 census 0 0 0 0 yes comparisons 0\n"
     );
 }
 
@@ -88,7 +91,7 @@ fn p5_triangles_at_a_point() {
         [-2, 1, -2, -1],
         [-2, -1, 0, 0],
     ]);
-    assert!(printed.contains("rings 4 census 5 6 3 1 yes\n"));
+    assert!(printed.contains("rings 4 census 5 6 3 1 yes comparisons 8\n"));
     let doubled: Vec<&str> = printed
         .lines()
         .filter_map(|line| line.split("doubled ").nth(1)?.split(' ').next())
@@ -108,7 +111,7 @@ fn p6_square_with_diagonals() {
     ]);
     let expected = "dangles 0\n\
                     cuts 2 4 5 census 4 6 2 1 no\n\
-                    rings 2 census 4 4 2 1 yes\n\
+                    rings 2 census 4 4 2 1 yes comparisons 6\n\
                     ring 0 face 1 side enclosed doubled 8 halves 0 2 4 6\n\
                     ring 1 face 0 side open doubled -8 halves 1 7 5 3\n";
     assert_eq!(printed, expected);
@@ -140,13 +143,10 @@ fn p9_bound() {
 
 #[test]
 fn p10_least_rotation() {
-    let start = |keys: &[u64]| {
-        let keys: Vec<_> = keys.iter().map(|&key| [key, 0]).collect();
-        rules::least_rotation(&keys)
-    };
-    assert_eq!(start(&[2, 1, 2, 1]), 1);
-    assert_eq!(start(&[5, 5]), 0);
-    assert_eq!(start(&[]), 0);
+    let found = |place: usize, comparisons: usize| Rotation { place, comparisons };
+    assert_eq!(least_rotation(&[2, 1, 2, 1]), found(1, 6));
+    assert_eq!(least_rotation(&[5, 5]), found(0, 2));
+    assert_eq!(least_rotation::<u64>(&[]), found(0, 0));
 }
 
 #[test]
@@ -169,5 +169,5 @@ fn crossing_triangles_without_a_node() {
         [6, 4, 3, -2],
         [3, -2, 0, 4],
     ]);
-    assert!(printed.contains("rings 4 census 6 6 4 2 yes\n"));
+    assert!(printed.contains("rings 4 census 6 6 4 2 yes comparisons 8\n"));
 }

@@ -188,7 +188,8 @@ pub fn delete_cut_edges(
     )
 }
 
-/// Lists the rings: stage 3 to 4. `reply` gets their count, V, E, cycles, C and the verdict.
+/// Lists the rings: stage 3 to 4. `reply` gets their count, V, E, cycles, C, the verdict, and how
+/// often the least-rotation searches of all rings compared two keys.
 pub fn extract_rings(
     state: &mut [u16],
     tables: &mut Tables,
@@ -256,7 +257,8 @@ pub fn compare_angular(points: &[f64; 6], reply: &mut [u8]) -> Result<(), Refusa
     })
 }
 
-/// Finds where the least rotation of a ring of keys starts; key i is (`xs[i]`, `ys[i]`).
+/// Finds the least rotation of a ring of keys; key i is (`xs[i]`, `ys[i]`). `reply` gets the place
+/// at which it starts, and how often the search compared two keys.
 pub fn minimum_rotation_index(xs: &[u64], ys: &[u64], reply: &mut [usize]) -> Result<(), Refusal> {
     // SAFETY: as in `lend`.
     answered(unsafe {

@@ -107,7 +107,7 @@ pub struct Census {
 }
 
 impl Census {
-    fn of([_, nodes, edges, cycles, pieces, euler]: [u16; 6]) -> Self {
+    fn of([nodes, edges, cycles, pieces, euler]: [u16; 5]) -> Self {
         Census {
             nodes,
             edges,
@@ -303,22 +303,25 @@ impl Graph {
             &mut self.listed,
             &mut reply,
         )?;
+        let [count, census @ ..] = reply;
         Ok(Cuts {
-            edges: self.listed_edges(reply[0]),
-            census: Census::of(reply),
+            edges: self.listed_edges(count),
+            census: Census::of(census),
         })
     }
 
     /// Extracts the rings of what is unmarked (`Cut` to `Ringed`).
     pub fn extract_rings(&mut self) -> Result<Rings<'_>, Refusal> {
-        let mut reply = [0; 6];
+        let mut reply = [0; 7];
         entries::extract_rings(
             &mut self.state,
             &mut self.tables.lend(),
             &mut self.rings.lend(),
             &mut reply,
         )?;
-        Ok(Rings::new(self, reply[0].into(), Census::of(reply)))
+        let [count, census @ .., comparisons] = reply;
+        let (count, comparisons) = (count.into(), comparisons.into());
+        Ok(Rings::new(self, count, Census::of(census), comparisons))
     }
 
     /// Unmarks everything, in any stage, so that segments can be added again (to `Building`).

@@ -40,10 +40,12 @@ mod ffi;
 mod graph;
 mod refusal;
 mod rings;
+mod rotation;
 mod segment_file;
 
 pub use graph::{Added, Census, Cuts, Graph, Records, Stage};
 pub use graph::{Coord3D, DirEdgeId, EdgeId, FaceId, Line3D, NodeId};
 pub use refusal::Refusal;
 pub use rings::{Ring, Rings, Side};
+pub use rotation::{least_rotation, Rotation};
 pub use segment_file::{segments, Segments};

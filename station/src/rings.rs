@@ -19,6 +19,7 @@ pub struct Rings<'a> {
     graph: &'a Graph,
     count: usize,
     census: Census,
+    comparisons: usize,
 }
 
 /// A ring. It begins with its lowest half-edge.
@@ -29,11 +30,12 @@ pub struct Ring<'a> {
 }
 
 impl<'a> Rings<'a> {
-    pub(crate) fn new(graph: &'a Graph, count: usize, census: Census) -> Self {
+    pub(crate) fn new(graph: &'a Graph, count: usize, census: Census, comparisons: usize) -> Self {
         Rings {
             graph,
             count,
             census,
+            comparisons,
         }
     }
 
@@ -45,6 +47,13 @@ impl<'a> Rings<'a> {
     /// The counts before maximal rings were split.
     pub fn census(&self) -> Census {
         self.census
+    }
+
+    /// How long naming took: for each ring the least rotation of its corners is searched once, from
+    /// its lowest half-edge, and this is how often two corners were compared, over all rings. A
+    /// ring of n corners takes at most 3 n - 3.
+    pub fn comparisons(&self) -> usize {
+        self.comparisons
     }
 
     pub fn len(&self) -> usize {

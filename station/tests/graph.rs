@@ -1,8 +1,8 @@
 //! The wrapper: what it hands out is what the library answered.
 
 use tukmiheb::{
-    segments, Coord3D, DirEdgeId, EdgeId, FaceId, Graph, Line3D, NodeId, Records, Refusal, Side,
-    Stage,
+    least_rotation, segments, Coord3D, DirEdgeId, EdgeId, FaceId, Graph, Line3D, NodeId, Records,
+    Refusal, Rotation, Side, Stage,
 };
 
 fn line(x1: i32, y1: i32, x2: i32, y2: i32, line_id: u32) -> Line3D {
@@ -41,6 +41,8 @@ fn from_segments_to_rings() {
     let rings = graph.extract_rings().expect("stage 3");
     assert_eq!(rings.len(), 2);
     assert!(rings.census().euler);
+    // Two for each: the least corner is compared with the two others.
+    assert_eq!(rings.comparisons(), 4);
     assert_eq!(rings.graph().stage(), Stage::Ringed);
     let [inner, outer] = [0, 1].map(|number| rings.get(number).expect("a ring"));
     assert!(rings.get(2).is_none());
@@ -94,6 +96,16 @@ fn reset_and_clear() {
     assert_eq!(graph.is_marked(EdgeId(3)), Some(false));
     graph.clear();
     assert_eq!((graph.node_count(), graph.edge_count()), (0, 0));
+}
+
+/// Document 01's least rotations, with their comparisons worked by hand.
+#[test]
+fn least_rotations() {
+    let found = |place: usize, comparisons: usize| Ok(Rotation { place, comparisons });
+    assert_eq!(least_rotation(&[2, 1, 2, 1], &[0; 4]), found(1, 6));
+    assert_eq!(least_rotation(&[5, 5], &[0; 2]), found(0, 2));
+    assert_eq!(least_rotation(&[], &[]), found(0, 0));
+    assert_eq!(least_rotation(&[5], &[]), Err(Refusal::ListTooShort));
 }
 
 fn record(values: [f64; 6], line_id: u32) -> Vec<u8> {

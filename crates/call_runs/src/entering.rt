@@ -31,7 +31,7 @@ pub enum Reply {
     WasReset,
     Dangles(u16),
     Cuts(u16, Census),
-    Rings(u16, Census),
+    Rings(u16, Census, u16),
     Refused(u64),
 }
 
@@ -321,9 +321,9 @@ fn extract(
     let after = done.graph;
     let answer = done.reply;
     match answer {
-        RingReply::Rings(count, census) => Outcome {
+        RingReply::Rings(count, census, comparisons) => Outcome {
             graph: after,
-            reply: Reply::Rings(count, census),
+            reply: Reply::Rings(count, census, comparisons),
         },
         RingReply::Refused(why) => Outcome {
             graph: after,

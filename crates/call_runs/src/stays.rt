@@ -118,7 +118,7 @@ pub fn is_kept(
             same_but_half_marks(before, after, new.edge_count)
                 && same_lists(before, after, wide(count), 0)
         }
-        Reply::Rings(count, census) => {
+        Reply::Rings(count, census, _) => {
             same_part(before, after, 0, HALF_EDGES)
                 && same_lists(before, after, 2 * wide(census.edges), wide(count))
         }

@@ -4,7 +4,7 @@ use native.Mathlib.Omega.{arith}
 use native.Mathlib.Nat.{add-zero}
 use mathlib.Core.Path.{_≡_, refl, sym, ap, subst, _∙_}
 use mathlib.Core.Bool.{true}
-use mathlib.Core.List.{List, [], _∷_, _++_, map, append-nil}
+use mathlib.Core.List.{List, [], _∷_, _++_, map, map-id, append-nil}
 use lib.ListN.{length, getD, take, drop, length-append, length-map, length-take, drop-of-length-le, List·getD-append}
 use lib.Seq.{take-append-seam, getD-take, getD-drop}
 use lib.Ieee.{Float, nan}
@@ -15,19 +15,22 @@ use Rattle.rules.specs.Cycles.{halves}
 use Rattle.rules.specs.Split.{minimalRings}
 use Rattle.rules.specs.Sane.{Sane}
 use Rattle.rules.specs.Face.{Ring, ringOf, doubledArea, faceNumber}
-use Rattle.rules.specs.State.{State, arrangement, pointOf, nodeKey, roomy, sound}
+use Rattle.rules.specs.Naming.{namingComparisons}
+use Rattle.rules.specs.State.{State, arrangement, pointOf, nodeKey, keyIn, roomy, sound}
 use Rattle.rules.specs.Ringing.{ringsOf, ringReplies, sideArea, sideBy}
 use Rattle.rules.proofs.Soundness.{is-roomy, is-sound}
 use Rattle.rules.proofs.Tables.{source-below, sound-sane}
 use Rattle.rules.proofs.Areas.{exact-areas}
 use Rattle.rules.proofs.Counting.{minimal-few}
 use Rattle.rules.proofs.Claims.{halved}
+use Rattle.rules.proofs.Replies.{rings-of-halves}
+use Rattle.rules.proofs.NamingSteps.{naming-few}
 use Rattle.rings.specs.Listing.{Listed, ringAt}
 use Rattle.rings.specs.Sides.{sideOf, sideIn, sideAreas, Sidable}
 use Rattle.rings.proofs.Meaning.{ring-read, rings-read, sidable, sides-exact}
 use Rattle.faces.specs.Listed.{HalfOf}
 use Rattle.faces.specs.Keys.{Startable}
-use Rattle.faces.specs.Numbers.{ringAt as ringFrom, ringsAt, faceNumbers, Numberable}
+use Rattle.faces.specs.Numbers.{ringAt as ringFrom, ringsAt, faceNumbers, origins, rowsAt, comparisonsAt, Numberable}
 use Rattle.faces.proofs.Rows.{map-upto-at}
 use Rattle.faces.proofs.Filled.{ring-of-state}
 use Rattle.extracting.proofs.Starts.{each-at, rings-inside, rings-fit, ring-some, begins-apart}
@@ -76,6 +79,18 @@ rings-few s = omega (arith, minimal-few (arrangement s), halves-are s)
 pub flat-few : (l : Limits) (s : State) → sound l s ≡ true → length (flatten (minimalRings (arrangement s))) ≤ 2 * s .edges
 flat-few l s sense = omega (arith, rings-fit (arrangement s) (sound-sane l s (is-sound l s sense)), halves-are s)
 
+-- the comparisons of naming, by a state's own tables
+keys-of-state : (s : State) (rings : List (List ℕ)) → namingComparisons (keyIn (s .nodeX) (s .nodeY)) (origins (s .source)) rings ≡ namingComparisons (nodeKey s) (arrangement s) rings
+unfolding namingComparisons nodeKey arrangement
+keys-of-state s rings = refl
+
+-- they fit 16 bits
+pub comparisons-fit : (l : Limits) (s : State) → sound l s ≡ true → 6 * l .edges < 65536 → namingComparisons (nodeKey s) (arrangement s) (map (λ q. q .halfEdges) (ringsOf s)) < 65536
+comparisons-fit l s sense low =
+    let rings = map (λ (q : Ring). q .halfEdges) (ringsOf s) in
+    let n : length (flatten rings) ≡ length (flatten (minimalRings (arrangement s))) = ap (λ r. length (flatten r)) (rings-of-halves s) in
+    omega (arith, naming-few (nodeKey s) (arrangement s) rings, n, flat-few l s sense, is-sound l s sense .edges)
+
 module _ (l : Limits) (s : State) (sense : sound l s ≡ true) (rows₀ first₀ size₀ rows first size : List ℕ) (count : ℕ)
     (listed : Listed (minimalRings (arrangement s)) rows₀ first₀ size₀ rows first size count) where
   -- the rings
@@ -123,6 +138,14 @@ module _ (l : Limits) (s : State) (sense : sound l s ≡ true) (rows₀ first₀
         ap faceNumbers (rings-from s front first size count
         ∙ rings-read rings (flatten rings) first₀ size₀ front first size count front-listed (ringOf (pointOf s) (nodeKey s) (arrangement s)) ∙ sym (rings-of s))
         ∙ sym (replies-faces s (ringsOf s) 0 (ringsOf s))
+
+    -- the rings of the lists are they
+    rows-are : rowsAt front first size count ≡ rings
+    rows-are = rings-read rings (flatten rings) first₀ size₀ front first size count front-listed (λ r. r) ∙ map-id rings
+
+    -- and so are the comparisons
+    pub comparisons-replied : comparisonsAt front first size count (s .source) (s .nodeX) (s .nodeY) ≡ namingComparisons (nodeKey s) (arrangement s) (map (λ q. q .halfEdges) (ringsOf s))
+    comparisons-replied = ap (namingComparisons (keyIn (s .nodeX) (s .nodeY)) (origins (s .source))) (rows-are ∙ sym (rings-of-halves s)) ∙ keys-of-state s (map (λ q. q .halfEdges) (ringsOf s))
 
     module _ (room : roomy l s ≡ true) (fine : Fine l) (inFirst : 2 * s .edges ≤ length first₀) (inSize : 2 * s .edges ≤ length size₀) where
       -- the lists have places for them

@@ -97,10 +97,10 @@ sound-extractable l g xs ys zs ds nm lines ids source target hm star room sense 
 pub extraction-ringed : (g : PlanarGraph) (xs ys zs : List Float) (ds : List ℕ) (nm : List Bool) (lines : List Float) (ids source target : List ℕ) (hm : List Bool) (star : List ℕ) (out out′ : RingLists) (r : Extracted)
     → let s = stateOf g xs ys zs ds nm lines ids source target hm star in
     Extraction s out out′ r
-    → _≡_ {A = Outcome Ringing RingLists} (record { reply = success (record { count = r .count; census = censusOf (r .census) }); state = stateOf (r .graph) xs ys zs ds nm lines ids source target hm star; lists = out′ }) (ringed s out)
+    → _≡_ {A = Outcome Ringing RingLists} (record { reply = success (record { count = r .count; census = censusOf (r .census); comparisons = r .comparisons }); state = stateOf (r .graph) xs ys zs ds nm lines ids source target hm star; lists = out′ }) (ringed s out)
 unfolding ringed
 extraction-ringed g xs ys zs ds nm lines ids source target hm star out out′ r e = λ i. record {
-  reply = success (record { count = e .count i; census = e .counted i });
+  reply = success (record { count = e .count i; census = e .counted i; comparisons = e .compared i });
   state = stateOf (e .advanced i) xs ys zs ds nm lines ids source target hm star;
   lists = record { halfEdges = e .halfEdges i; first = e .first i; length = e .size i; face = e .face i; side = e .side i; area = e .area i };
 }
@@ -124,7 +124,7 @@ ring-passes l s room sense stage out fits =
 pub extraction-is-outcome : (l : Limits) (g : PlanarGraph) (xs ys zs : List Float) (ds : List ℕ) (nm : List Bool) (lines : List Float) (ids source target : List ℕ) (hm : List Bool) (star : List ℕ)
     → let s = stateOf g xs ys zs ds nm lines ids source target hm star in
     roomy l s ≡ true → sound l s ≡ true → s .stage ≡ 3 → (out out′ : RingLists) (r : Extracted) → longEnough (2 * s .edges) out ≡ true → Extraction s out out′ r
-    → ringStep l s out ≡ record { reply = success (record { count = r .count; census = censusOf (r .census) }); state = stateOf (r .graph) xs ys zs ds nm lines ids source target hm star; lists = out′ }
+    → ringStep l s out ≡ record { reply = success (record { count = r .count; census = censusOf (r .census); comparisons = r .comparisons }); state = stateOf (r .graph) xs ys zs ds nm lines ids source target hm star; lists = out′ }
 extraction-is-outcome l g xs ys zs ds nm lines ids source target hm star room sense stage out out′ r fits e =
     ring-passes l (stateOf g xs ys zs ds nm lines ids source target hm star) room sense stage out fits
     ∙ sym (extraction-ringed g xs ys zs ds nm lines ids source target hm star out out′ r e)

@@ -7,8 +7,9 @@ use lib.ListN.{length, take}
 use lib.Ieee.{Float}
 use Rattle.lists.specs.Lists.{flatten, over}
 use Rattle.rules.specs.Limits.{Limits}
-use Rattle.rules.specs.State.{State, arrangement, roomy, sound}
+use Rattle.rules.specs.State.{State, arrangement, nodeKey, roomy, sound}
 use Rattle.rules.specs.Euler.{census}
+use Rattle.rules.specs.Naming.{namingComparisons}
 use Rattle.rules.specs.Ringing.{RingReply, RingLists, ringsOf, ringReplies, sideNumber, sideArea}
 use Rattle.tables.specs.Tables.{stateOf}
 use Rattle.tables.specs.declared.PlanarGraph.{PlanarGraph}
@@ -47,11 +48,12 @@ pub record Extractable (l : Limits) (graph : PlanarGraph) (nodesX nodesY : List 
 abbrev pub repliesOf : State → List RingReply
 repliesOf s = ringReplies s (ringsOf s) 0 (ringsOf s)
 
--- the rings of a state are counted and written into the lists, its census is taken, and the stage is 4
+-- the rings of a state are counted and written into the lists, its census is taken, the comparisons of naming are counted, and the stage is 4
 pub record Extraction (s : State) (out out′ : RingLists) (r : Extracted) : Type 0 where
   pub advanced : r .graph ≡ record { «node_count» = s .nodes; «edge_count» = s .edges; stage = 4 }
   pub count : r .count ≡ length (ringsOf s)
   pub counted : censusOf (r .census) ≡ census (arrangement s)
+  pub compared : r .comparisons ≡ namingComparisons (nodeKey s) (arrangement s) (map (λ q. q .halfEdges) (ringsOf s))
   pub halfEdges : out′ .halfEdges ≡ over (flatten (map (λ q. q .halfEdges) (ringsOf s))) (out .halfEdges)
   pub first : out′ .first ≡ over (map (λ w. w .first) (repliesOf s)) (out .first)
   pub size : out′ .length ≡ over (map (λ w. w .length) (repliesOf s)) (out .length)

@@ -8,12 +8,13 @@ ghost use Rattle.rules.specs.Limits.{limits};
 ghost use Rattle.extracting.specs.Extraction.{listsOf, Extractable, Extracts};
 use tables::PlanarGraph;
 
-// What ring extraction answers: the graph in its last stage, how many rings there are, and the
-// census taken before splitting.
+// What ring extraction answers: the graph in its last stage, how many rings there are, the census
+// taken before splitting, and how many comparisons naming the rings took.
 pub struct Extracted {
     pub graph: PlanarGraph,
     pub count: u16,
     pub census: cycles::Census,
+    pub comparisons: u16,
 }
 
 // Ring extraction over stars that are grouped by node. Each active edge has both halves in rings,
@@ -64,7 +65,7 @@ pub fn extract_grouped(
         ring_area,
     );
     let total = 2 * tables::wide(census.edges);
-    faces::number_faces(
+    let made = faces::number_faces(
         &half_edges[..total],
         ring_first,
         ring_length,
@@ -75,6 +76,7 @@ pub fn extract_grouped(
         ring_area,
         ring_face,
     );
+    let comparisons = made as u16;
     Extracted {
         graph: PlanarGraph {
             node_count: graph.node_count,
@@ -83,5 +85,6 @@ pub fn extract_grouped(
         },
         count,
         census,
+        comparisons,
     }
 }

@@ -7,20 +7,22 @@ use native.Mathlib.Omega.{arith}
 use lib.ListN.{length, getD, take, drop, length-append, length-drop, length-map, List·getD-append}
 use lib.Seq.{take-append-le, drop-append-le, ext-getD}
 use lib.Ieee.{Float, nan}
-use Rattle.lists.specs.Lists.{upto, pick, In, over}
+use Rattle.lists.specs.Lists.{upto, pick, In, over, sum}
 use Rattle.lists.proofs.Counts.{by-test, in-head, in-tail}
 use Rattle.lists.proofs.Members.{length-upto}
 use Rattle.rotation.specs.Rotation.{Key, rotated, keysOf, leastRotation}
+use Rattle.rotation.specs.Steps.{comparisons}
 use Rattle.rotation.proofs.Keys.{length-keys}
 use Rattle.rotation.proofs.Least.{least-rotation}
-use Rattle.rules.specs.Face.{Ring, doubledArea, faceKey, faceBefore, howMany, faceNumber, ringOf}
+use Rattle.rules.specs.Face.{Ring, doubledArea, ringKeys, faceKey, faceBefore, howMany, faceNumber, ringOf}
+use Rattle.rules.specs.Naming.{namingComparisons}
 use Rattle.rules.specs.Keys.{keyOf}
 use Rattle.rules.specs.Limits.{Limits}
 use Rattle.rules.specs.State.{State, arrangement, pointOf, nodeKey, pointIn, keyIn}
 use Rattle.faces.specs.Listed.{partOf, HalfOf, Listed, listed, ringIn, Stands, AllStand}
-use Rattle.faces.specs.Keys.{bitsFrom, turnOf}
+use Rattle.faces.specs.Keys.{bitsFrom, turnOf, stepsOf}
 use Rattle.faces.specs.Order.{before, inOrder}
-use Rattle.faces.specs.Numbers.{indexOf, origins, ringAt, ringsAt, faceNumbers, Numberable}
+use Rattle.faces.specs.Numbers.{indexOf, origins, ringAt, ringsAt, faceNumbers, comparisonsAt, Numberable}
 use Rattle.faces.proofs.Rows.{map-at, map-upto-at}
 use Rattle.faces.proofs.KeyLists.{length-part, keys-part}
 use Rattle.faces.proofs.Places.{index-sorted, upto-below}
@@ -39,7 +41,7 @@ pick-agree p q [] e = refl
 pick-agree p q (x ∷ l) e = rw (e x (in-head x x l refl), pick-agree p q l (λ y m. e y (in-tail y x l m)))
 
 -- two rows of numbers, the one by way of rings
-row-same : (f : ℕ → ℕ) (F : Ring → ℕ) (R : ℕ → Ring) (n : ℕ) → ((i : ℕ) → i < n → f i ≡ F (R i)) → map f (upto n) ≡ map F (map R (upto n))
+row-same : {A : Type 0} (f : ℕ → ℕ) (F : A → ℕ) (R : ℕ → A) (n : ℕ) → ((i : ℕ) → i < n → f i ≡ F (R i)) → map f (upto n) ≡ map F (map R (upto n))
 row-same f F R n e =
     let a : length (map f (upto n)) ≡ n = length-map (upto n) f ∙ length-upto n in
     let b : length (map R (upto n)) ≡ n = length-map (upto n) R ∙ length-upto n in
@@ -111,6 +113,13 @@ module _ (lim : Limits) (halfEdges firsts lengths : List ℕ) (count : ℕ) (sou
       (ap (partOf a n) ex ∙ part-over (bitsFrom source X) halfEdges xs₀ a n (g .within i h))
       (ap (partOf a n) ey ∙ part-over (bitsFrom source Y) halfEdges ys₀ a n (g .within i h))
       ∙ keys-map (bitsFrom source X) (bitsFrom source Y) (partOf a n halfEdges)
+
+  -- the comparisons that the searches make are those of naming the rings
+  pub steps-filled : sum (map (stepsOf (keysOf xs ys) firsts lengths) (upto count)) ≡ comparisonsAt halfEdges firsts lengths count source X Y
+  unfolding stepsOf namingComparisons
+  steps-filled =
+      ap sum (row-same (stepsOf (keysOf xs ys) firsts lengths) (λ ring. comparisons (ringKeys (keyIn X Y) (origins source) ring))
+      (λ i. partOf (getD firsts i 0) (getD lengths i 0) halfEdges) count (λ i h. ap comparisons (keys-filled i h)))
 
   -- the turns as they are written
   module _ (turns turns₀ : List ℕ) (et : turns ≡ over (map (turnOf (keysOf xs ys) firsts lengths) (upto count)) turns₀) (roomT : count ≤ length turns₀) where

@@ -1,13 +1,15 @@
 -- A row written over the front of a table, entry by entry; entries of a row made by a function.
 use mathlib.Core.Path.{_≡_, refl, sym, ap, _∙_}
-use mathlib.Core.List.{List, [], _∷_, _++_, map}
+use mathlib.Core.List.{List, [], _∷_, _++_, map, map-append}
 use Prim.Native.Nat.{ℕ, zero, suc, _+_, _≤_, _<_}
 use native.Mathlib.Omega.{arith}
+use native.Mathlib.Nat.{add-zero}
 use native.Mathlib.Numerals.{add-one}
 use lib.ListN.{length, getD, take, drop, set}
 use lib.Seq.{take-suc, take-length, drop-cons, length-take-le, set-at, append-snoc}
-use Rattle.lists.specs.Lists.{upto, over}
+use Rattle.lists.specs.Lists.{upto, over, sum}
 use Rattle.lists.proofs.Members.{length-upto}
+use Rattle.lists.proofs.Sums.{sum-append}
 use Rattle.rules.proofs.Values.{getD-upto}
 
 -- the value at a place
@@ -19,6 +21,14 @@ map-at f (x ∷ l) (suc i) d e h = map-at f l i d e (omega arith)
 -- the value at a place of a row over 0 .. n - 1
 pub map-upto-at : {B : Type 0} (f : ℕ → B) (n i : ℕ) (e : B) → i < n → getD (map f (upto n)) i e ≡ f i
 map-upto-at f n i e h = map-at f (upto n) i 0 e (omega (arith, length-upto n)) ∙ ap f (getD-upto n i 0 h)
+
+-- the sum of such a row with one entry more
+pub sum-more : (f : ℕ → ℕ) (i : ℕ) → sum (map f (upto (i + 1))) ≡ sum (map f (upto i)) + f i
+sum-more f i =
+    ap (λ n. sum (map f (upto n))) (add-one i)
+    ∙ ap sum (map-append f (upto i) (i ∷ []))
+    ∙ sum-append (map f (upto i)) (f i ∷ [])
+    ∙ ap (λ n. sum (map f (upto i)) + n) (add-zero (f i))
 
 module _ (row t : List ℕ) (room : length row ≤ length t) where
   -- one entry more

@@ -6,8 +6,10 @@ use lib.ListN.{length, getD}
 use lib.Ieee.{Float, nan}
 use Rattle.geometry.specs.Coordinate.{canonicalBits}
 use Rattle.rotation.specs.Rotation.{Key, keysBefore, rotated, leastRotation}
+use Rattle.rotation.specs.Steps.{comparisons}
 use Rattle.faces.specs.declared.keys.KeysOrder.{KeysOrder}
 use Rattle.faces.specs.declared.keys.KeysOrder.the-variants.{Less, Equal, Greater}
+use Rattle.faces.specs.declared.keys.Search.{Search}
 use Rattle.faces.specs.declared.keys.Turned.{Turned}
 use Rattle.faces.specs.Listed.{partOf}
 
@@ -21,10 +23,19 @@ abbrev pub Startable : List ℕ → List ℕ → List Float → Type 0
 Startable halfEdges source coordinates = (k : ℕ) → k < length halfEdges
     → (getD halfEdges k 0 < length source) × (getD source (getD halfEdges k 0) 0 < length coordinates)
 
+-- what the search for the least rotation of keys finds, and the comparisons that it takes
+abbrev pub searchOf : List Key → Search
+searchOf ks = record { turn = leastRotation ks; comparisons = comparisons ks }
+
 -- where the least rotation of ring i's keys starts
 unfoldable pub turnOf : List Key → List ℕ → List ℕ → ℕ → ℕ
 unfolding leastRotation
 turnOf keys firsts lengths i = leastRotation (partOf (getD firsts i 0) (getD lengths i 0) keys)
+
+-- the comparisons that finding it takes
+unfoldable pub stepsOf : List Key → List ℕ → List ℕ → ℕ → ℕ
+unfolding comparisons
+stepsOf keys firsts lengths i = comparisons (partOf (getD firsts i 0) (getD lengths i 0) keys)
 
 -- the keys of a ring from where its least rotation starts
 abbrev pub turnedKeys : List Key → Turned → List Key

@@ -9,6 +9,7 @@ use lib.Ieee.{Float, nan}
 use Rattle.lists.specs.Lists.{upto, countOf}
 use Rattle.rules.specs.Cycles.{Arrangement}
 use Rattle.rules.specs.Face.{Ring, ringOf, faceNumber}
+use Rattle.rules.specs.Naming.{namingComparisons}
 use Rattle.rules.specs.Limits.{Limits}
 use Rattle.rules.specs.State.{arrangementIn, pointIn, keyIn}
 use Rattle.faces.specs.Listed.{partOf, HalfOf}
@@ -40,6 +41,14 @@ ringsAt halfEdges firsts lengths count source xs ys = map (ringAt halfEdges firs
 -- the face number of each ring
 abbrev pub faceNumbers : List Ring → List ℕ
 faceNumbers rs = map (faceNumber rs) rs
+
+-- the half-edges of each ring of the lists
+abbrev pub rowsAt : List ℕ → List ℕ → List ℕ → ℕ → List (List ℕ)
+rowsAt halfEdges firsts lengths count = map (λ i. partOf (getD firsts i 0) (getD lengths i 0) halfEdges) (upto count)
+
+-- the comparisons made in naming them
+abbrev pub comparisonsAt : List ℕ → List ℕ → List ℕ → ℕ → List ℕ → List Float → List Float → ℕ
+comparisonsAt halfEdges firsts lengths count source xs ys = namingComparisons (keyIn xs ys) (origins source) (rowsAt halfEdges firsts lengths count)
 
 -- what numbering asks: the lists hold rings, each with its area, and no two begin with the same half-edge
 pub record Numberable (l : Limits) (halfEdges firsts lengths : List ℕ) (count : ℕ) (source : List ℕ) (xs ys areas : List Float) : Type 0 where

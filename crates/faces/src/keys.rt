@@ -4,10 +4,10 @@ ghost use mathlib.Core.Path.{_≡_};
 ghost use mathlib.Core.List.{map};
 ghost use Prim.Native.Nat.{ℕ, _+_, _<_, _≤_, _%_, _^_, min};
 ghost use lib.ListN.{length, getD};
-ghost use Rattle.lists.specs.Lists.{upto, over};
-ghost use Rattle.rotation.specs.Rotation.{keyBefore, keyAt, keysOf, leastRotation};
+ghost use Rattle.lists.specs.Lists.{upto, over, sum};
+ghost use Rattle.rotation.specs.Rotation.{keyBefore, keyAt, keysOf};
 ghost use Rattle.faces.specs.Listed.{partOf};
-ghost use Rattle.faces.specs.Keys.{bitsFrom, Startable, turnOf, turnedKeys, Turns, keysOrder};
+ghost use Rattle.faces.specs.Keys.{bitsFrom, Startable, searchOf, turnOf, stepsOf, turnedKeys, Turns, keysOrder};
 use crate::wide;
 use rotation::RotationStart;
 
@@ -40,20 +40,31 @@ pub fn write_bits(half_edges: &[u16], dir_edges_src: &[u16], coordinates: &[f64]
     }
 }
 
-// Where the least rotation of a ring's keys starts. The two parts are of one length, so that none is
-// refused.
-fn turn_of(xs: &[u64], ys: &[u64], first: usize, size: usize) -> u16
+// Where the least rotation of a ring's keys starts, and how many comparisons finding it took.
+pub struct Search {
+    pub turn: u16,
+    pub comparisons: usize,
+}
+
+// The search for one ring. The two parts are of one length, so that none is refused.
+fn turn_of(xs: &[u64], ys: &[u64], first: usize, size: usize) -> Search
     requires { ⌜ (0 < size) × (size < 65536) × (first + size ≤ length (keysOf (now xs) (now ys))) ⌝ }
-    ensures { λ r. ⌜ r ≡ leastRotation (partOf first size (keysOf (now (xs .entry)) (now (ys .entry)))) ⌝ }
+    ensures { λ r. ⌜ r ≡ searchOf (partOf first size (keysOf (now (xs .entry)) (now (ys .entry)))) ⌝ }
 {
     let end = first + size;
     match rotation::minimum_rotation_index(&xs[first..end], &ys[first..end]) {
-        RotationStart::At(at, _) => at as u16,
-        RotationStart::LengthsDiffer => 0,
+        RotationStart::At(at, comparisons) => {
+            let turn = at as u16;
+            Search { turn, comparisons }
+        }
+        RotationStart::LengthsDiffer => Search {
+            turn: 0,
+            comparisons: 0,
+        },
     }
 }
 
-// The same for each ring.
+// The turn of each ring; the answer is how many comparisons all the searches made.
 pub fn write_turns(
     xs: &[u64],
     ys: &[u64],
@@ -61,18 +72,23 @@ pub fn write_turns(
     lengths: &[u16],
     count: usize,
     turns: &mut [u16],
-)
-    requires { ⌜ (count ≤ length (now firsts)) × (count ≤ length (now lengths)) × (count ≤ length (now turns)) ⌝ }
+) -> usize
+    requires { ⌜ (count ≤ 65536) × (count ≤ length (now firsts)) × (count ≤ length (now lengths)) × (count ≤ length (now turns)) ⌝ }
     requires { ⌜ ((i : ℕ) → i < count → (0 < getD (now lengths) i 0) × (getD (now firsts) i 0 + getD (now lengths) i 0 ≤ length (keysOf (now xs) (now ys)))) ⌝ }
-    ensures { λ _. ⌜ now (turns .exit) ≡ over (map (turnOf (keysOf (now (xs .entry)) (now (ys .entry))) (now (firsts .entry)) (now (lengths .entry))) (upto count)) (now (turns .entry)) ⌝ }
+    ensures turns { λ _. ⌜ now (turns .exit) ≡ over (map (turnOf (keysOf (now (xs .entry)) (now (ys .entry))) (now (firsts .entry)) (now (lengths .entry))) (upto count)) (now (turns .entry)) ⌝ }
+    ensures made { λ r. ⌜ r ≡ sum (map (stepsOf (keysOf (now (xs .entry)) (now (ys .entry))) (now (firsts .entry)) (now (lengths .entry))) (upto count)) ⌝ }
 {
+    let mut made = 0;
     let mut i = 0;
     while i < count {
         let first = wide(firsts[i]);
         let size = wide(lengths[i]);
-        turns[i] = turn_of(xs, ys, first, size);
+        let found = turn_of(xs, ys, first, size);
+        turns[i] = found.turn;
+        made += found.comparisons;
         i += 1;
     }
+    made
 }
 
 // The place of a ring's entry k, counted from where its least rotation starts.

@@ -69,7 +69,7 @@ fn put_cut(
     );
     let reply = done.reply;
     match reply {
-        RingReply::Rings(count, census) => {
+        RingReply::Rings(count, census, _) => {
             let place = listing_text::put_head(
                 out,
                 0,

@@ -67,6 +67,11 @@ abbrev pub firstWhere : (ℕ → Bool) → ℕ → List ℕ → ℕ
 firstWhere p d [] = d
 firstWhere p d (x ∷ xs) = cond (p x) x (firstWhere p d xs)
 
+-- the sum of the members
+abbrev pub sum : List ℕ → ℕ
+sum [] = 0
+sum (x ∷ xs) = x + sum xs
+
 -- one list after another
 abbrev pub flatten : List (List ℕ) → List ℕ
 flatten [] = []

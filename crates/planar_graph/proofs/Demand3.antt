@@ -14,9 +14,11 @@ use Rattle.rules.specs.Sketch.{Sketch, pointAt, sketched, Call, feed, adding, s
 use Rattle.rules.specs.Claim.{isRefused, World, call, turnWorld, history, emptySketch, ringsFrom, RingRules, SideRules, TableRules, Claim, SoundClaim, Real, AllReal}
 use Rattle.rules.proofs.Replies.{demand-passed}
 use Rattle.rules.proofs.Histories.{demand-3, demand-3-sound}
+use Rattle.rules.proofs.NamingSteps.{replied-few}
+use Rattle.rules.specs.Naming.{FewComparisons}
 use Rattle.planar_graph.specs.Clauses.{Creates}
 use Rattle.planar_graph.specs.Runs as runs
-use Rattle.planar_graph.specs.Runs.{Step, after, Meets, Run, ends, feedStep, sketchFrom, Demand3, Demand3Sound}
+use Rattle.planar_graph.specs.Runs.{Step, after, Meets, Run, ends, feedStep, sketchFrom, Demand3, Demand3Sound, NamingIsShort}
 
 -- the call of a step
 abbrev callOf : Step → Call
@@ -124,3 +126,11 @@ demand3-sound s last out written r e =
     subst (λ lists. RingRules (arrangement s) (pointOf s) (ringsFrom lists (upto (r .count))) × SideRules (arrangement s) (pointOf s) (ringsFrom lists (upto (r .count))) lists × (r .census ≡ census (arrangement s)))
     (ap (λ z. z .lists) (sym e))
     (demand-3-sound s out r (ap (λ z. z .reply) (sym e)))
+
+-- ---- how long naming takes
+
+pub naming-is-short : NamingIsShort
+unfolding NamingIsShort
+naming-is-short s last out written r e =
+    subst (λ lists. FewComparisons (ringsFrom lists (upto (r .count))) (r .comparisons)) (ap (λ z. z .lists) (sym e))
+    (replied-few limits s out r (ap (λ z. z .reply) (sym e)))

@@ -39,7 +39,7 @@ Prunes before out reply after written = leftWith reply after written ≡ pruneSt
 abbrev pub Cuts : State → List ℕ → Reply Cutting → State → List ℕ → Type 0
 Cuts before out reply after written = leftWith reply after written ≡ cutStep limits before out
 
--- ring extraction: the count and the census, and the rings in the lent lists
+-- ring extraction: the count, the census and the comparisons, and the rings in the lent lists
 abbrev pub Extracts : State → RingLists → Reply Ringing → State → RingLists → Type 0
 Extracts before out reply after written = leftWith reply after written ≡ ringStep limits before out
 

@@ -43,7 +43,7 @@ abbrev pub cutReply : CutReply → Reply Cutting
 cutReply (cut.Cuts n c) = success (record { count = n; census = censusOf c })
 cutReply (cut.Refused why) = refused (refusalNumber why)
 
--- ring extraction: the count and the census, or the number
+-- ring extraction: the count, the census and the comparisons, or the number
 abbrev pub ringReply : RingReply → Reply Ringing
-ringReply (ring.Rings n c) = success (record { count = n; census = censusOf c })
+ringReply (ring.Rings n c m) = success (record { count = n; census = censusOf c; comparisons = m })
 ringReply (ring.Refused why) = refused (refusalNumber why)

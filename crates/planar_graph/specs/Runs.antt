@@ -13,6 +13,7 @@ use Rattle.rules.specs.Stages.{Cutting}
 use Rattle.rules.specs.Ringing.{RingLists, Ringing}
 use Rattle.rules.specs.Sketch.{Sketch, pointAt, sketched, feed, adding, sorting, pruning, cutting, ringing, resetting}
 use Rattle.rules.specs.Claim.{isRefused, emptySketch, ringsFrom, RingRules, SideRules, TableRules, Given64}
+use Rattle.rules.specs.Naming.{FewComparisons}
 use Rattle.planar_graph.specs.Clauses.{Creates, Adds, Sorts, Prunes, Cuts, Extracts, Resets}
 
 -- a call of a run, with what came out of it
@@ -85,3 +86,9 @@ Demand3Sound =
     (s last : State) (out written : RingLists) (r : Ringing) → Extracts s out (success r) last written
     → let rings = ringsFrom written (upto (r .count)) in
     RingRules (arrangement s) (pointOf s) rings × SideRules (arrangement s) (pointOf s) rings written × (r .census ≡ census (arrangement s))
+
+-- Naming takes no more than 3 n - 3 comparisons for each ring of n half-edges that is replied, n at least 2, and none for the others.
+unfoldable pub NamingIsShort : Type 0
+NamingIsShort =
+    (s last : State) (out written : RingLists) (r : Ringing) → Extracts s out (success r) last written
+    → FewComparisons (ringsFrom written (upto (r .count))) (r .comparisons)

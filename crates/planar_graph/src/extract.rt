@@ -98,7 +98,7 @@ pub fn extract_rings(
         let after = done.graph;
         return Ringed {
             graph: after,
-            reply: RingReply::Rings(done.count, census),
+            reply: RingReply::Rings(done.count, census, done.comparisons),
         };
     }
     Ringed {

@@ -72,10 +72,10 @@ pub struct Cutting {
     pub reply: CutReply,
 }
 
-// What ring extraction answers: how many rings it listed, with V, E, cycles, C and the verdict, or a
-// refusal.
+// What ring extraction answers: how many rings it listed, with V, E, cycles, C and the verdict, and
+// how many comparisons naming them took; or a refusal.
 pub enum RingReply {
-    Rings(u16, Census),
+    Rings(u16, Census, u16),
     Refused(Refusal),
 }
 

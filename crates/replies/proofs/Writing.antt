@@ -1,12 +1,19 @@
 -- Numbers written one after another over the front of a list.
-use Prim.Native.Nat.{_≤_}
-use mathlib.Core.Path.{_≡_, refl}
-use mathlib.Core.List.{List, [], _∷_}
+use Prim.Native.Nat.{_<_, _≤_}
+use mathlib.Core.Path.{_≡_, refl, ap}
+use mathlib.Core.List.{List, [], _∷_, _++_}
 use lib.ListN.{length, set}
 use native.Mathlib.Omega.{arith}
 use Rattle.lists.specs.Lists.{over}
 
 module _ {A : Type 0} where
+  -- one more behind a row that was written
+  pub put-next : (xs : List A) (a : A) (l : List A) → length xs < length l → set (over xs l) (length xs) a ≡ over (xs ++ (a ∷ [])) l
+  put-next [] a [] h = absurd (omega arith)
+  put-next [] a (x ∷ l) h = refl
+  put-next (x ∷ xs) a [] h = absurd (omega arith)
+  put-next (x ∷ xs) a (y ∷ l) h = ap (λ t. x ∷ t) (put-next xs a l (omega arith))
+
   pub put-one : (a : A) (l : List A) → 1 ≤ length l → set l 0 a ≡ over (a ∷ []) l
   put-one a [] h = absurd (omega arith)
   put-one a (x ∷ l) h = refl

@@ -1,7 +1,7 @@
 -- The values of each reply, as numbers in the order in which they are written.
 use Prim.Native.Nat.{ℕ}
 use mathlib.Core.Bool.{cond}
-use mathlib.Core.List.{List, [], _∷_}
+use mathlib.Core.List.{List, [], _∷_, _++_}
 use Rattle.rules.specs.Adding.{Nothing, Added}
 use Rattle.rules.specs.Euler.{Census}
 use Rattle.rules.specs.Stages.{Cutting}
@@ -31,5 +31,6 @@ censusValues n c = n ∷ c .vertices ∷ c .edges ∷ c .cycles ∷ c .pieces �
 abbrev pub cutValues : Cutting → List ℕ
 cutValues a = censusValues (a .count) (a .census)
 
+-- the count, the census, and the comparisons of naming
 abbrev pub ringValues : Ringing → List ℕ
-ringValues a = censusValues (a .count) (a .census)
+ringValues a = censusValues (a .count) (a .census) ++ (a .comparisons ∷ [])

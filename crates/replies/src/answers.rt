@@ -10,6 +10,7 @@ ghost use Rattle.file_entry.specs.Replies.{fileReply};
 ghost use Rattle.planar_graph.specs.Replies.{createdReply, createdGraph, stepReply, pruneReply, cutReply, ringReply};
 ghost use Rattle.replies.specs.Lent.{numberOf, valuesAfter, SmallAfter, graphIn};
 ghost use Rattle.replies.specs.Values.{addedValues, fileValues, countValue, cutValues, ringValues};
+use crate::small::CENSUS_LENGTH;
 use crate::small::flag;
 use crate::small::refusal_number;
 use crate::small::write_census;
@@ -147,8 +148,9 @@ pub fn answer_cutting(state: &mut [u16], reply: &mut [u16], done: Cutting) -> u3
     }
 }
 
+// As for cutting, and the comparisons of naming behind that.
 pub fn answer_rings(state: &mut [u16], reply: &mut [u16], done: Ringed) -> u32
-    requires { ⌜ (3 ≤ length (now state)) × (6 ≤ length (now reply)) ⌝ }
+    requires { ⌜ (3 ≤ length (now state)) × (7 ≤ length (now reply)) ⌝ }
     ensures number { λ r. ⌜ r ≡ numberOf (ringReply (done .reply)) ⌝ }
     ensures small { λ _. ⌜ SmallAfter (ringReply (done .reply)) (done .graph) (now (state .entry)) (now (state .exit)) ⌝ }
     ensures values { λ _. ⌜ now (reply .exit) ≡ valuesAfter ringValues (ringReply (done .reply)) (now (reply .entry)) ⌝ }
@@ -157,8 +159,9 @@ pub fn answer_rings(state: &mut [u16], reply: &mut [u16], done: Ringed) -> u32
     let graph = done.graph;
     match answer {
         RingReply::Refused(why) => refusal_number(why),
-        RingReply::Rings(count, census) => {
+        RingReply::Rings(count, census, comparisons) => {
             write_census(reply, count, census);
+            reply[CENSUS_LENGTH] = comparisons;
             write_state(state, graph);
             0
         }

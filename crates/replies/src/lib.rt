@@ -12,6 +12,7 @@ pub use answers::answer_rings;
 pub use answers::answer_step;
 pub use small::CENSUS_LENGTH;
 pub use small::REPLY_TOO_SHORT;
+pub use small::RINGS_LENGTH;
 pub use small::STATE_LENGTH;
 pub use small::STATE_TOO_SHORT;
 pub use small::read_state;

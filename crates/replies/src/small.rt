@@ -19,6 +19,8 @@ pub const STATE_LENGTH: usize = 3;
 // A count, V, E, cycles, C and the verdict.
 pub const CENSUS_LENGTH: usize = 6;
 
+pub const RINGS_LENGTH: usize = CENSUS_LENGTH + 1;
+
 // A slice that is too short is refused as a table (6) or as a list (8) is.
 pub const STATE_TOO_SHORT: u32 = 6;
 

@@ -22,6 +22,7 @@ pub mod Agreement
 pub mod Soundness
 pub mod Tables
 pub mod Replies
+pub mod NamingSteps
 pub mod PointLaws
 pub mod Sketches
 pub mod SketchCalls

@@ -14,6 +14,7 @@ pub mod Euler
 pub mod Paths
 pub mod EulerFormula
 pub mod Face
+pub mod Naming
 pub mod State
 pub mod Pieces
 pub mod Adding

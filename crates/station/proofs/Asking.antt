@@ -10,11 +10,11 @@ use borrow.Author.Tests.{lt-ltb, le-ltb}
 use Rattle.rules.specs.SegmentFile.{Read}
 use Rattle.station.specs.Questions.{Told, toldBy, asking, gaveBy, gaveRecord, askedRecord}
 
-module _ (reply : List ℕ) (t : Told) where
-  pub short-answer : length reply < 1 → toldBy 8 reply ≡ asking reply t
+module _ (size : ℕ) (reply : List ℕ) (t : Told) where
+  pub short-answer : length reply < size → toldBy 8 reply ≡ asking size reply t
   short-answer h = sym (ap (λ b. cond b (toldBy 8 reply) t) (lt-ltb _ _ h))
 
-  pub long-answer : 1 ≤ length reply → t ≡ asking reply t
+  pub long-answer : size ≤ length reply → t ≡ asking size reply t
   long-answer h = sym (ap (λ b. cond b (toldBy 8 reply) t) (le-ltb _ _ h))
 
 module _ (line : List Float) (reply : List ℕ) (r : Read) where

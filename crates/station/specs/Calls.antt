@@ -34,7 +34,7 @@ abbrev pub cut : List ℕ → State → List ℕ → List ℕ → Left (List ℕ
 cut small s out reply = asked 6 cutValues small s out reply (cutStep limits s out)
 
 abbrev pub ringed : List ℕ → State → RingLists → List ℕ → Left RingLists
-ringed small s out reply = asked 6 ringValues small s out reply (ringStep limits s out)
+ringed small s out reply = asked 7 ringValues small s out reply (ringStep limits s out)
 
 abbrev pub wasReset : List ℕ → State → Left Nothing
 wasReset small s = asked 0 noValues small s none [] (reset limits s)

@@ -50,14 +50,14 @@ abbrev pub toldOrder : List ℕ → Reply Ordering → Told
 toldOrder reply (refused n) = record { number = n; reply = reply }
 toldOrder reply (success o) = record { number = 0; reply = over (orderNumber o ∷ []) reply }
 
--- slices of unequal lengths are no ring: 8
+-- the place and the comparisons; slices of unequal lengths are no ring: 8
 abbrev pub toldStart : List ℕ → RotationStart → Told
-toldStart reply (At i n) = record { number = 0; reply = over (i ∷ []) reply }
+toldStart reply (At i n) = record { number = 0; reply = over (i ∷ n ∷ []) reply }
 toldStart reply LengthsDiffer = record { number = 8; reply = reply }
 
--- 8 where there is no room for the answer
-abbrev pub asking : List ℕ → Told → Told
-asking reply t = cond (ltb (length reply) 1) (record { number = 8; reply = reply }) t
+-- 8 where there is no room for an answer of so many values
+abbrev pub asking : ℕ → List ℕ → Told → Told
+asking size reply t = cond (ltb (length reply) size) (record { number = 8; reply = reply }) t
 
 -- what an entry gave, from the number that it answered and the slices at its end
 abbrev pub gaveBy : ℕ → List Float → List ℕ → Gave

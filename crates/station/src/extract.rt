@@ -4,14 +4,15 @@ ghost use Rattle.tables.specs.Tables.{stateOf};
 ghost use Rattle.extracting.specs.Extraction.{listsOf};
 ghost use Rattle.replies.specs.Lent.{graphIn, gives};
 ghost use Rattle.station.specs.Calls.{ringed};
-use replies::CENSUS_LENGTH;
 use replies::REPLY_TOO_SHORT;
+use replies::RINGS_LENGTH;
 use replies::STATE_LENGTH;
 use replies::STATE_TOO_SHORT;
 use replies::answer_rings;
 use replies::read_state;
 
-// Lists the rings. The reply is their count, V, E, cycles, C and the verdict.
+// Lists the rings. The reply is their count, V, E, cycles, C, the verdict, and the comparisons that
+// naming them took.
 #[no_mangle]
 pub extern "C" fn tukmiheb_extract_rings(
     state: &mut [u16],
@@ -40,7 +41,7 @@ pub extern "C" fn tukmiheb_extract_rings(
     if state.len() < STATE_LENGTH {
         return STATE_TOO_SHORT;
     }
-    if reply.len() < CENSUS_LENGTH {
+    if reply.len() < RINGS_LENGTH {
         return REPLY_TOO_SHORT;
     }
     let done = planar_graph::extract_rings(

@@ -118,7 +118,7 @@ pub extern "C" fn tukmiheb_compare_angular(
     by: f64,
     reply: &mut [u8],
 ) -> u32
-    ensures { λ r. ⌜ toldBy r (now (reply .exit)) ≡ asking (now (reply .entry)) (toldOrder (now (reply .entry)) (comparison coordinateBound (flat cx cy) (flat ax ay) (flat bx by))) ⌝ }
+    ensures { λ r. ⌜ toldBy r (now (reply .exit)) ≡ asking 1 (now (reply .entry)) (toldOrder (now (reply .entry)) (comparison coordinateBound (flat cx cy) (flat ax ay) (flat bx by))) ⌝ }
 {
     if reply.len() < 1 {
         return REPLY_TOO_SHORT;
@@ -133,22 +133,23 @@ pub extern "C" fn tukmiheb_compare_angular(
     }
 }
 
-// Where the least rotation of the keys (xs[i], ys[i]) starts.
+// Where the least rotation of the keys (xs[i], ys[i]) starts, and the comparisons that finding it took.
 #[no_mangle]
 pub extern "C" fn tukmiheb_minimum_rotation_index(
     xs: &[u64],
     ys: &[u64],
     reply: &mut [usize],
 ) -> u32
-    ensures { λ r. ⌜ toldBy r (now (reply .exit)) ≡ asking (now (reply .entry)) (toldStart (now (reply .entry)) (rotationStart (now (xs .entry)) (now (ys .entry)))) ⌝ }
+    ensures { λ r. ⌜ toldBy r (now (reply .exit)) ≡ asking 2 (now (reply .entry)) (toldStart (now (reply .entry)) (rotationStart (now (xs .entry)) (now (ys .entry)))) ⌝ }
 {
-    if reply.len() < 1 {
+    if reply.len() < 2 {
         return REPLY_TOO_SHORT;
     }
     match rotation::minimum_rotation_index(xs, ys) {
         RotationStart::LengthsDiffer => REPLY_TOO_SHORT,
-        RotationStart::At(start, _) => {
+        RotationStart::At(start, comparisons) => {
             reply[0] = start;
+            reply[1] = comparisons;
             0
         }
     }

@@ -4,15 +4,17 @@ use Prim.Native.Nat.{ℕ, _*_, _≤_}
 use native.Mathlib.Omega.{arith}
 use mathlib.Core.Path.{_≡_, refl, sym, ap, subst, _∙_}
 use mathlib.Core.Bool.{Bool, true}
-use mathlib.Core.List.{List}
+use mathlib.Core.List.{List, map}
+use lib.Dec.{lit<}
 use lib.Ieee.{Float}
 use lib.ListN.{length, take}
 use lib.Seq.{length-take-le}
 use Rattle.lists.specs.Lists.{flatten, over}
 use Rattle.rules.specs.Limits.{limits}
 use Rattle.rules.specs.Split.{minimalRings}
-use Rattle.rules.specs.State.{State, arrangement, sound}
-use Rattle.rules.specs.Ringing.{sideNumber, sideArea}
+use Rattle.rules.specs.State.{State, arrangement, nodeKey, sound}
+use Rattle.rules.specs.Naming.{namingComparisons}
+use Rattle.rules.specs.Ringing.{ringsOf, sideNumber, sideArea}
 use Rattle.rules.proofs.Histories.{fine-limits}
 use Rattle.rules.proofs.Soundness.{is-roomy, is-sound}
 use Rattle.rules.proofs.Replies.{rings-of-halves}
@@ -22,9 +24,9 @@ use Rattle.stars.proofs.Sound.{sound-sortable}
 use Rattle.cycles.specs.Census.{censusOf}
 use Rattle.rings.specs.Sides.{sideOf, sideIn}
 use Rattle.rings.proofs.Meaning.{rings-read, places-replied, sizes-replied, sides-replied}
-use Rattle.faces.specs.Numbers.{ringsAt, faceNumbers, Numberable}
+use Rattle.faces.specs.Numbers.{ringsAt, faceNumbers, comparisonsAt, Numberable}
 use Rattle.extracting.specs.Listing.{RingsListed}
-use Rattle.extracting.proofs.Numbering.{rings-few, flat-few, sides-asked, faces-replied, numberable}
+use Rattle.extracting.proofs.Numbering.{rings-few, flat-few, comparisons-fit, sides-asked, faces-replied, comparisons-replied, numberable}
 use Rattle.extracting.proofs.Outcome.{arrangement-is, held-sane, total-is, rings-many}
 use Rattle.extracting.proofs.extract_grouped.Statement.{statement}
 use Rattle.extracting.proofs.extract_grouped.Tie as tie
@@ -76,6 +78,10 @@ whole : (y : tie.After-wide) (zs : List Float) (ds : List ℕ) (nm : List Bool) 
 whole y zs ds nm lines ids target star sense gs =
     let w = listing y in
     ap (λ k. 2 * k) (y .wide .ensures) ∙ total-is limits (held (start w) zs ds nm lines ids target star) sense (censusOf (w .list-rings .result .census)) (got w zs ds nm lines ids target star sense gs .counted)
+
+-- where the total is known, from where the faces are numbered
+abbrev sized : tie.After-number-faces → tie.After-wide
+sized x = x .before .before .before .before .before .before .before
 
 -- and within the list
 inside : (y : tie.After-wide) → 2 * y .wide .result ≤ length (rows (listing y))
@@ -150,6 +156,29 @@ number-faces-requires c κs =
       omega (arith, n, h .number, rings-few k, p .long .inFace),
     )
 
+-- the comparisons made are those of naming the rings
+made-is : (x : tie.After-number-faces) (zs : List Float) (ds : List ℕ) (nm : List Bool) (lines : List Float) (ids target star : List ℕ)
+    → let s = start (listing (sized x)) in
+    let k = held s zs ds nm lines ids target star in
+    sound limits k ≡ true → Stars s star → x .number-faces .result ≡ namingComparisons (nodeKey k) (arrangement k) (map (λ q. q .halfEdges) (ringsOf k))
+made-is x zs ds nm lines ids target star sense gs =
+    let y = sized x in
+    let w = listing y in
+    let s = start w in
+    let k = held s zs ds nm lines ids target star in
+    let total : ℕ = 2 * y .wide .result in
+    x .number-faces .ensures .1
+    ∙ ap (λ n. comparisonsAt (take total (rows w)) (first w) (size w) n (s .args .dir-edges-src .now) (s .args .nodes-x .now) (s .args .nodes-y .now)) (x .before .before .before .wide2 .ensures)
+    ∙ comparisons-replied limits k sense (s .args .half-edges .now) (s .args .ring-first .now) (s .args .ring-length .now) (rows w) (first w) (size w) (w .list-rings .result .count)
+    (got w zs ds nm lines ids target star sense gs .listed) total (whole y zs ds nm lines ids target star sense gs)
+
+cast-comparisons : tie.Need-cast-comparisons
+cast-comparisons c =
+    let x = c .before .before in
+    let s = start (listing (sized x)) in
+    let p = s .pre in
+    omega (arith, made-is x (p .nodesZ) (p .degree) (p .nodesMarked) (p .lines) (p .lineIds) (p .target) (p .star) (p .sense) (p .groups), comparisons-fit limits (own s) (p .sense) (lit< tt))
+
 same-length : tie.Need-same-length
 same-length c = search needs
 
@@ -171,7 +200,7 @@ same-length-6 c = search needs
 returns : tie.Need-returns
 returns c =
     let x = c .before .before in
-    let y = x .before .before .before .before .before .before .before in
+    let y = sized x in
     let v = y .before .before .before .before .before in
     let w = listing y in
     let s = start w in
@@ -184,10 +213,11 @@ returns c =
       advanced = refl;
       count = h .number ∙ rings-many k;
       counted = q .counted;
+      compared = made-is x zs ds nm lines ids target star sense gs;
       halfEdges = h .rows ∙ ap (λ r. over (flatten r) (s .args .half-edges .now)) (sym (rings-of-halves k));
       first = h .places ∙ ap (λ r. over r (s .args .ring-first .now)) (places-replied k);
       size = h .sizes ∙ ap (λ r. over r (s .args .ring-length .now)) (sizes-replied k);
-      face = x .number-faces .ensures ∙ ap (λ r. over r (s .args .ring-face .now))
+      face = x .number-faces .ensures .0 ∙ ap (λ r. over r (s .args .ring-face .now))
           (ap (λ n. faceNumbers (ringsAt (take total (rows w)) (first w) (size w) n (s .args .dir-edges-src .now) (s .args .nodes-x .now) (s .args .nodes-y .now))) (x .before .before .before .wide2 .ensures)
           ∙ faces-replied limits k sense (s .args .half-edges .now) (s .args .ring-first .now) (s .args .ring-length .now) (rows w) (first w) (size w) (w .list-rings .result .count) h total (whole y zs ds nm lines ids target star sense gs));
       side = v .write-sides .ensures .0 ∙ ap (λ r. over r (s .args .ring-side .now))
@@ -210,6 +240,7 @@ extract-grouped-spec =
     slice-aggregate-number-faces
     wide-requires-2
     number-faces-requires
+    cast-comparisons
     same-length
     same-length-2
     same-length-3

@@ -1,4 +1,5 @@
--- `faces::keys::turn_of` meets its contract. The two parts are of one length, so that what is found is where the least rotation starts.
+-- `faces::keys::turn_of` meets its contract. The two parts are of one length, so that what is found is where the least rotation starts,
+-- with the comparisons made.
 use Prim.Native.Nat.{ℕ, _+_, _-_}
 use native.Mathlib.Omega.{arith}
 use mathlib.Core.Path.{_≡_, sym, ap, _∙_}
@@ -11,21 +12,23 @@ use Rattle.rotation.specs.Rotation.{keysOf, leastRotation}
 use Rattle.rotation.specs.Steps.{comparisons}
 use Rattle.rotation.specs.Answers.{startAt, rotationStart}
 use Rattle.rotation.proofs.Least.{least-rotation}
+use Rattle.faces.specs.declared.keys.Search.{Search}
 use Rattle.faces.specs.Listed.{partOf}
+use Rattle.faces.specs.Keys.{searchOf}
 use Rattle.faces.proofs.KeyLists.{keys-within, keys-part, length-part}
 use borrow.Author.Needs.{needs}
 use Rattle.faces.proofs.keys.turn_of.Statement.{statement}
 use Rattle.faces.proofs.keys.turn_of.Tie as tie
 
--- the place that was found
-abbrev place : RotationStart → ℕ
-place (At i n) = i
-place LengthsDiffer = 0
+-- what was found
+abbrev search-in : RotationStart → Search
+search-in (At i n) = record { turn = i; comparisons = n }
+search-in LengthsDiffer = record { turn = 0; comparisons = 0 }
 
--- of two lists of one length it is where the least rotation starts
-place-is : (xs ys : List ℕ) → length xs ≡ length ys → place (rotationStart xs ys) ≡ leastRotation (keysOf xs ys)
+-- of two lists of one length it is where the least rotation starts, and the comparisons
+search-is : (xs ys : List ℕ) → length xs ≡ length ys → search-in (rotationStart xs ys) ≡ searchOf (keysOf xs ys)
 unfolding rotationStart
-place-is xs ys e = ap (λ b. place (startAt b (leastRotation (keysOf xs ys)) (comparisons (keysOf xs ys)))) (eq-eqb (length xs) (length ys) e)
+search-is xs ys e = ap (λ b. search-in (startAt b (leastRotation (keysOf xs ys)) (comparisons (keysOf xs ys)))) (eq-eqb (length xs) (length ys) e)
 
 add-end : tie.Need-add-end
 add-end c = omega (arith, keys-within (c .before .before .args .xs .now) (c .before .before .args .ys .now))
@@ -59,7 +62,7 @@ minimum-rotation-index-requires c κs = search needs
 
 -- what is found, by the parts as the code takes them
 found : (c : tie.After-minimum-rotation-index) → let s = c .before .before .before .before .before in
-    place (c .minimum-rotation-index .result) ≡ leastRotation (partOf (s .args .first) (s .args .size) (keysOf (s .args .xs .now) (s .args .ys .now)))
+    search-in (c .minimum-rotation-index .result) ≡ searchOf (partOf (s .args .first) (s .args .size) (keysOf (s .args .xs .now) (s .args .ys .now)))
 found c =
     let s = c .before .before .before .before .before in
     let a = s .args in
@@ -69,30 +72,30 @@ found c =
     let Y : List ℕ = partOf (a .first) (a .size) (a .ys .now) in
     let same : length X ≡ length Y =
     length-part (a .first) (a .size) (a .xs .now) (omega (arith, w, s .pre .2)) ∙ sym (length-part (a .first) (a .size) (a .ys .now) (omega (arith, w, s .pre .2))) in
-    ap place (c .minimum-rotation-index .ensures)
-    ∙ ap (λ (n : ℕ). place (rotationStart (take n (drop (a .first) (a .xs .now))) (take n (drop (a .first) (a .ys .now))))) e
-    ∙ place-is X Y same
-    ∙ ap leastRotation (keys-part (a .first) (a .size) (a .xs .now) (a .ys .now))
+    ap search-in (c .minimum-rotation-index .ensures)
+    ∙ ap (λ (n : ℕ). search-in (rotationStart (take n (drop (a .first) (a .xs .now))) (take n (drop (a .first) (a .ys .now))))) e
+    ∙ search-is X Y same
+    ∙ ap searchOf (keys-part (a .first) (a .size) (a .xs .now) (a .ys .now))
 
 enum-known-at : tie.Need-enum-known-at
 enum-known-at c = search needs
 
-cast-result : tie.Need-cast-result
-cast-result c =
+cast-turn : tie.Need-cast-turn
+cast-turn c =
     let d = c .before .before .before in
     let s = d .before .before .before .before .before in
     let P = partOf (s .args .first) (s .args .size) (keysOf (s .args .xs .now) (s .args .ys .now)) in
     let n = length-part (s .args .first) (s .args .size) (keysOf (s .args .xs .now) (s .args .ys .now)) (s .pre .2) in
-    omega (arith, ap place (c .before .at .given .1), found d, n, least-rotation P (omega arith) .within)
+    omega (arith, ap (λ r. search-in r .turn) (c .before .at .given .1), ap (λ q. q .turn) (found d), n, least-rotation P (omega arith) .within)
 
 enum-told : tie.Need-enum-told
 enum-told c = search needs
 
 returns : tie.Need-returns
-returns c = sym (ap place (c .before .at .given .1)) ∙ found (c .before .before .before)
+returns c = sym (ap search-in (c .before .at .given .1)) ∙ found (c .before .before .before)
 
 returns-2 : tie.Need-returns-2
-returns-2 c = sym (ap place (c .enum-told .given .1)) ∙ found (c .before .before)
+returns-2 c = sym (ap search-in (c .enum-told .given .1)) ∙ found (c .before .before)
 
 pub turn-of-spec : {M : Type 1} → statement M
 turn-of-spec =
@@ -109,7 +112,7 @@ turn-of-spec =
     part-minimum-rotation-index-end-2
     minimum-rotation-index-requires
     enum-known-at
-    cast-result
+    cast-turn
     enum-told
     returns
     returns-2)

@@ -13,9 +13,9 @@ use Rattle.rotation.specs.Rotation.{keysOf}
 use Rattle.rules.specs.Limits.{limits}
 use Rattle.faces.specs.Listed.{Listed, listed, AllStand}
 use Rattle.faces.specs.Order.{inOrder}
-use Rattle.faces.specs.Numbers.{indexOf, Once, ringsAt, faceNumbers}
+use Rattle.faces.specs.Numbers.{indexOf, Once, ringsAt, faceNumbers, comparisonsAt}
 use Rattle.faces.proofs.Rings.{length-order, order-once}
-use Rattle.faces.proofs.Filled.{within-filled, all-filled, places-numbers}
+use Rattle.faces.proofs.Filled.{within-filled, steps-filled, all-filled, places-numbers}
 use Rattle.faces.proofs.numbers.number_faces.Statement.{statement}
 use Rattle.faces.proofs.numbers.number_faces.Tie as tie
 
@@ -30,6 +30,18 @@ fits s = omega (arith, s .pre .0 .short, length-replicate {A = ℕ} 2048 0)
 -- and for each ring
 few : (s : tie.Start) → s .args .count ≤ length zeros
 few s = omega (arith, s .pre .0 .few, length-replicate {A = ℕ} 2048 0)
+
+-- the start, from where the bits are written
+abbrev entry : tie.After-write-bits2 → tie.Start
+entry c = c .before .before .before .before .before .before .before .before .before .before .before .before .before
+
+-- that place, from where the turns are
+abbrev bits : tie.After-write-turns → tie.After-write-bits2
+bits c = c .before .before .before .before .before
+
+-- and that one, from where the rings are sorted
+abbrev searched : tie.After-sort-rings → tie.After-write-turns
+searched c = c .before .before .before .before .before .before
 
 -- the bits of x as they are written
 abbrev xs : tie.After-write-bits2 → List ℕ
@@ -46,42 +58,56 @@ turns c = c .write-turns .last .1 .1 .1 .1 .1 .0
 -- the lists
 abbrev tables : tie.After-write-turns → Listed
 tables c =
-    let a = c .before .before .before .before .before .before .before .before .before .before .before .before .before .before .before .before .before .before .args in
-    listed (a .half-edges .now) (xs (c .before .before .before .before .before)) (ys (c .before .before .before .before .before)) (a .firsts .now) (a .lengths .now) (turns c) (a .areas .now)
+    let a = entry (bits c) .args in
+    listed (a .half-edges .now) (xs (bits c)) (ys (bits c)) (a .firsts .now) (a .lengths .now) (turns c) (a .areas .now)
 
 -- a ring's keys are in the lists
-within : (c : tie.After-write-bits2) → let a = c .before .before .before .before .before .before .before .before .before .before .before .before .before .args in
+within : (c : tie.After-write-bits2) → let a = entry c .args in
     (i : ℕ) → i < a .count → getD (a .firsts .now) i 0 + getD (a .lengths .now) i 0 ≤ length (keysOf (xs c) (ys c))
 within c =
-    let s = c .before .before .before .before .before .before .before .before .before .before .before .before .before in
+    let s = entry c in
     let a = s .args in
     within-filled limits (a .half-edges .now) (a .firsts .now) (a .lengths .now) (a .count) (a .dir-edges-src .now) (a .nodes-x .now) (a .nodes-y .now) (a .areas .now) (s .pre .0)
     (xs c) (ys c) zeros zeros (c .before .before .before .write-bits .ensures) (c .write-bits2 .ensures) (fits s) refl
 
 -- the rings are
-stand : (c : tie.After-write-turns) → AllStand (tables c) (c .before .before .before .before .before .before .before .before .before .before .before .before .before .before .before .before .before .before .args .count)
+stand : (c : tie.After-write-turns) → AllStand (tables c) (entry (bits c) .args .count)
 stand c =
-    let s = c .before .before .before .before .before .before .before .before .before .before .before .before .before .before .before .before .before .before in
+    let b = bits c in
+    let s = entry b in
     let a = s .args in
     all-filled limits (a .half-edges .now) (a .firsts .now) (a .lengths .now) (a .count) (a .dir-edges-src .now) (a .nodes-x .now) (a .nodes-y .now) (a .areas .now) (s .pre .0)
-    (xs (c .before .before .before .before .before)) (ys (c .before .before .before .before .before)) zeros zeros (c .before .before .before .before .before .before .before .before .write-bits .ensures) (c .before .before .before .before .before .write-bits2 .ensures) (fits s) refl (turns c) zeros (c .write-turns .ensures) (few s)
+    (xs b) (ys b) zeros zeros (b .before .before .before .write-bits .ensures) (b .write-bits2 .ensures) (fits s) refl (turns c) zeros (c .write-turns .ensures .0) (few s)
 
 -- their places in order are their face numbers
-numbers : (c : tie.After-write-turns) → let a = c .before .before .before .before .before .before .before .before .before .before .before .before .before .before .before .before .before .before .args in
+numbers : (c : tie.After-write-turns) → let a = entry (bits c) .args in
     map (λ i. indexOf i (inOrder (tables c) (a .count))) (upto (a .count))
     ≡ faceNumbers (ringsAt (a .half-edges .now) (a .firsts .now) (a .lengths .now) (a .count) (a .dir-edges-src .now) (a .nodes-x .now) (a .nodes-y .now))
 numbers c =
-    let s = c .before .before .before .before .before .before .before .before .before .before .before .before .before .before .before .before .before .before in
+    let b = bits c in
+    let s = entry b in
     let a = s .args in
     places-numbers limits (a .half-edges .now) (a .firsts .now) (a .lengths .now) (a .count) (a .dir-edges-src .now) (a .nodes-x .now) (a .nodes-y .now) (a .areas .now) (s .pre .0)
-    (xs (c .before .before .before .before .before)) (ys (c .before .before .before .before .before)) zeros zeros (c .before .before .before .before .before .before .before .before .write-bits .ensures) (c .before .before .before .before .before .write-bits2 .ensures) (fits s) refl (turns c) zeros (c .write-turns .ensures) (few s)
+    (xs b) (ys b) zeros zeros (b .before .before .before .write-bits .ensures) (b .write-bits2 .ensures) (fits s) refl (turns c) zeros (c .write-turns .ensures .0) (few s)
+
+-- the comparisons made are those of naming the rings
+steps : (c : tie.After-write-turns) → let a = entry (bits c) .args in
+    c .write-turns .result ≡ comparisonsAt (a .half-edges .now) (a .firsts .now) (a .lengths .now) (a .count) (a .dir-edges-src .now) (a .nodes-x .now) (a .nodes-y .now)
+steps c =
+    let b = bits c in
+    let s = entry b in
+    let a = s .args in
+    c .write-turns .ensures .1
+    ∙ steps-filled limits (a .half-edges .now) (a .firsts .now) (a .lengths .now) (a .count) (a .dir-edges-src .now) (a .nodes-x .now) (a .nodes-y .now) (a .areas .now) (s .pre .0)
+    (xs b) (ys b) zeros zeros (b .before .before .before .write-bits .ensures) (b .write-bits2 .ensures) (fits s) refl
 
 -- the first entries of the order
-row : (c : tie.After-sort-rings) → let n = c .before .before .before .before .before .before .before .before .before .before .before .before .before .before .before .before .before .before .before .before .before .before .before .before .args .count in take n (c .sort-rings .last .1 .1 .1 .1 .1 .1 .1 .1 .0) ≡ inOrder (tables (c .before .before .before .before .before .before)) n
+row : (c : tie.After-sort-rings) → let n = entry (bits (searched c)) .args .count in
+    take n (c .sort-rings .last .1 .1 .1 .1 .1 .1 .1 .1 .0) ≡ inOrder (tables (searched c)) n
 row c =
-    let n = c .before .before .before .before .before .before .before .before .before .before .before .before .before .before .before .before .before .before .before .before .before .before .before .before .args .count in
-    let l = inOrder (tables (c .before .before .before .before .before .before)) n in
-    ap (take n) (c .sort-rings .ensures) ∙ take-at l (drop (length l) zeros) n (length-order (tables (c .before .before .before .before .before .before)) n)
+    let n = entry (bits (searched c)) .args .count in
+    let l = inOrder (tables (searched c)) n in
+    ap (take n) (c .sort-rings .ensures) ∙ take-at l (drop (length l) zeros) n (length-order (tables (searched c)) n)
 
 slice-aggregate-write-bits : tie.Need-slice-aggregate-write-bits
 slice-aggregate-write-bits c = search needs
@@ -107,7 +133,7 @@ slice-aggregate-write-turns-3 c = search needs
 write-turns-requires : tie.Need-write-turns-requires
 write-turns-requires c κs =
     let p = c .before .before .before .before .before .before .before .before .before .before .before .before .before .before .before .before .before .pre .0 in
-    ((p .firstRoom, p .lengthRoom, p .few), λ i h. (p .some i h, within (c .before .before .before .before) i h))
+    ((omega (arith, p .few), p .firstRoom, p .lengthRoom, p .few), λ i h. (p .some i h, within (c .before .before .before .before) i h))
 
 slice-aggregate-sort-rings : tie.Need-slice-aggregate-sort-rings
 slice-aggregate-sort-rings c = search needs
@@ -123,27 +149,33 @@ slice-aggregate-sort-rings-4 c = search needs
 
 sort-rings-requires : tie.Need-sort-rings-requires
 sort-rings-requires c κs =
-    let p = c .before .before .before .before .before .before .before .before .before .before .before .before .before .before .before .before .before .before .before .before .before .before .before .pre .0 in
-    record { stand = stand (c .before .before .before .before .before); few = omega (arith, p .few); room = p .few }
+    let d = c .before .before .before .before .before in
+    let p = entry (bits d) .pre .0 in
+    record { stand = stand d; few = omega (arith, p .few); room = p .few }
 
 slice-aggregate-write-places : tie.Need-slice-aggregate-write-places
 slice-aggregate-write-places c = search needs
 
 write-places-requires : tie.Need-write-places-requires
 write-places-requires c κs =
-    let s = c .before .before .before .before .before .before .before .before .before .before .before .before .before .before .before .before .before .before .before .before .before .before .before .before .before .before .before in
+    let d = c .before .before .before in
+    let s = entry (bits (searched d)) in
     let p = s .pre .0 in
-    (omega (arith, p .few), omega (arith, p .few, c .before .before .before .sort-rings .kept), s .pre .1, subst (Once (s .args .count)) (sym (row (c .before .before .before))) (order-once (tables (c .before .before .before .before .before .before .before .before .before)) (s .args .count)))
+    (omega (arith, p .few), omega (arith, p .few, d .sort-rings .kept), s .pre .1, subst (Once (s .args .count)) (sym (row d)) (order-once (tables (searched d)) (s .args .count)))
 
 same-length : tie.Need-same-length
 same-length c = search needs
 
 returns : tie.Need-returns
 returns c =
-    let a = c .before .before .before .before .before .before .before .before .before .before .before .before .before .before .before .before .before .before .before .before .before .before .before .before .before .before .before .before .before .before .args in
-    c .before .before .write-places .ensures
-    ∙ ap (λ l. over (map (λ i. indexOf i l) (upto (a .count))) (a .faces .now)) (row (c .before .before .before .before .before .before))
-    ∙ ap (λ r. over r (a .faces .now)) (numbers (c .before .before .before .before .before .before .before .before .before .before .before .before))
+    let d = c .before .before .before .before .before .before in
+    let t = searched d in
+    let a = entry (bits t) .args in (
+      c .before .before .write-places .ensures
+          ∙ ap (λ l. over (map (λ i. indexOf i l) (upto (a .count))) (a .faces .now)) (row d)
+          ∙ ap (λ r. over r (a .faces .now)) (numbers t),
+      steps t,
+    )
 
 pub number-faces-spec : {M : Type 1} → statement M
 number-faces-spec =

@@ -1,7 +1,11 @@
 -- `answer_rings` meets its contract.
-use Rattle.replies.specs.Values.{ringValues}
+use native.Mathlib.Omega.{arith}
+use lib.ListN.{set}
+use Rattle.cycles.specs.Census.{censusOf}
+use Rattle.replies.specs.Values.{censusValues, ringValues}
 use Rattle.planar_graph.specs.Replies.{ringReply}
 use mathlib.Core.Path.{_∙_, ap}
+use Rattle.replies.proofs.Writing.{put-next}
 use Rattle.replies.proofs.Replying.{refused-number, refused-small, refused-values, success-number, success-small, success-values}
 use borrow.Author.Needs.{needs}
 use Rattle.replies.proofs.answers.answer_rings.Statement.{statement}
@@ -34,6 +38,9 @@ returns c =
       ),
     )
 
+slice-write-reply : tie.Need-slice-write-reply
+slice-write-reply c = search needs
+
 same-length : tie.Need-same-length
 same-length c = search needs
 
@@ -42,13 +49,16 @@ same-length-2 c = search needs
 
 returns-2 : tie.Need-returns-2
 returns-2 c =
-    let k = c .before .before .before .before .before .before .before .before .before .before .before .before .before .before in
+    let told = c .before .before .before .before .before .before .before .before .before in
+    let k = told .before .before .before .before .before in
     let reply = ringReply (k .args .done .reply) in
-    let e = ap ringReply (c .before .before .before .before .before .before .before .before .before .answer2 .given .1) in (
+    let v = told .answer2 .given .0 in
+    let e = ap ringReply (told .answer2 .given .1) in
+    let census = c .before .before .before .before .before .before .write-census .ensures in (
       success-number reply _ e,
       (
         success-small reply _ e (k .args .done .graph) (k .args .state .now) _ (c .before .before .write-state .ensures),
-        success-values reply _ e ringValues (k .args .reply .now) _ (c .before .before .before .before .before .before .write-census .ensures),
+        success-values reply _ e ringValues (k .args .reply .now) _ (ap (λ l. set l 6 (v .1 .1 .0)) census ∙ put-next (censusValues (v .0) (censusOf (v .1 .0))) (v .1 .1 .0) (k .args .reply .now) (omega arith)),
       ),
     )
 
@@ -60,6 +70,7 @@ answer-rings-spec =
     refusal-number-requires
     enum-known-answer-2
     write-census-requires
+    slice-write-reply
     write-state-requires
     returns
     same-length

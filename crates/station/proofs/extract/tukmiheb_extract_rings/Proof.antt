@@ -29,7 +29,7 @@ returns c =
     let small = k .args .state .now in
     let reply = k .args .reply .now in
     let s = held (graphIn small) k in
-    short-state ringValues 6 small reply s (lists k) (ringStep limits s (lists k)) (c .if1 .taken)
+    short-state ringValues 7 small reply s (lists k) (ringStep limits s (lists k)) (c .if1 .taken)
 
 returns-2 : tie.Need-returns-2
 returns-2 c =
@@ -37,7 +37,7 @@ returns-2 c =
     let small = k .args .state .now in
     let reply = k .args .reply .now in
     let s = held (graphIn small) k in
-    short-reply ringValues 6 small reply s (lists k) (ringStep limits s (lists k)) (c .before .if1 .left) (c .if2 .taken)
+    short-reply ringValues 7 small reply s (lists k) (ringStep limits s (lists k)) (c .before .if1 .left) (c .if2 .taken)
 
 read-state-requires : tie.Need-read-state-requires
 read-state-requires c κs = search needs
@@ -80,7 +80,7 @@ returns-3 c =
     let s = held (graphIn small) k in
     let e = c .before .before .before .before .before .before .before .before .before .before .before .before .before .before .before .before .before .before .before .extract-rings .ensures ∙ ap (λ g. ringStep limits (held g k) (lists k)) (c .before .before .before .before .before .before .before .before .before .before .before .before .before .before .before .before .before .before .before .before .before .before .before .before .before .before .read-state .ensures) in
     let a = c .before .before .before .before .answer-rings .ensures in
-    settled ringValues 6 small reply s (lists k) (ringStep limits s (lists k)) (ring-keeps limits s (lists k)) refl (c .before .before .before .before .before .before .before .before .before .before .before .before .before .before .before .before .before .before .before .before .before .before .before .before .before .before .before .before .before .if1 .left) (c .before .before .before .before .before .before .before .before .before .before .before .before .before .before .before .before .before .before .before .before .before .before .before .before .before .before .before .before .if2 .left) _ _ _ e _ (a .0) _ (a .1 .0) _ (a .1 .1)
+    settled ringValues 7 small reply s (lists k) (ringStep limits s (lists k)) (ring-keeps limits s (lists k)) refl (c .before .before .before .before .before .before .before .before .before .before .before .before .before .before .before .before .before .before .before .before .before .before .before .before .before .before .before .before .before .if1 .left) (c .before .before .before .before .before .before .before .before .before .before .before .before .before .before .before .before .before .before .before .before .before .before .before .before .before .before .before .before .if2 .left) _ _ _ e _ (a .0) _ (a .1 .0) _ (a .1 .1)
 
 pub tukmiheb-extract-rings-spec : {M : Type 1} → statement M
 tukmiheb-extract-rings-spec =

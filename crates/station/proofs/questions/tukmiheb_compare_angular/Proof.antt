@@ -12,7 +12,7 @@ use Rattle.station.proofs.questions.tukmiheb_compare_angular.Statement.
 use Rattle.station.proofs.questions.tukmiheb_compare_angular.Tie as tie
 
 returns : tie.Need-returns
-returns c = short-answer _ _ (c .if1 .taken)
+returns c = short-answer 1 _ _ (c .if1 .taken)
 
 flat-point-requires : tie.Need-flat-point-requires
 flat-point-requires c κs = search needs
@@ -44,7 +44,7 @@ returns-2 c =
     let reply = k .args .reply .now in
     let e = ap replyOf (sym (c .enum-told .given .1)) ∙ c .before .before .compare-angular .ensures
     ∙ (λ i. comparison coordinateBound (c .before .before .before .before .before .flat-point .ensures i) (c .before .before .before .before .flat-point2 .ensures i) (c .before .before .before .flat-point3 .ensures i)) in
-    ap (toldOrder reply) e ∙ long-answer reply _ (c .before .before .before .before .before .before .if1 .left)
+    ap (toldOrder reply) e ∙ long-answer 1 reply _ (c .before .before .before .before .before .before .if1 .left)
 
 same-length : tie.Need-same-length
 same-length c = search needs
@@ -56,7 +56,7 @@ returns-3 c =
     let e = ap replyOf (sym (c .before .before .order .given .1)) ∙ c .before .before .before .before .compare-angular .ensures
     ∙ (λ i. comparison coordinateBound (c .before .before .before .before .before .before .before .flat-point .ensures i) (c .before .before .before .before .before .before .flat-point2 .ensures i) (c .before .before .before .before .before .flat-point3 .ensures i)) in
     let h = c .before .before .before .before .before .before .before .before .if1 .left in
-    ap (toldBy 0) (put-one _ reply h ∙ ap (λ z. over (z ∷ []) reply) (c .order-number .ensures)) ∙ ap (toldOrder reply) e ∙ long-answer reply _ h
+    ap (toldBy 0) (put-one _ reply h ∙ ap (λ z. over (z ∷ []) reply) (c .order-number .ensures)) ∙ ap (toldOrder reply) e ∙ long-answer 1 reply _ h
 
 pub tukmiheb-compare-angular-spec : {M : Type 1} → statement M
 tukmiheb-compare-angular-spec =
