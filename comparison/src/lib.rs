@@ -7,8 +7,10 @@ pub mod inputs;
 pub mod random;
 
 mod library;
+mod slices;
 
-pub use library::{lend, lend_lists, Library};
+pub use library::{answer, answer_file, front, lend_lists, Library};
+pub use slices::{Packed, Slice};
 
 use oracle::calls::{self, Line};
 use oracle::rules;

@@ -1,10 +1,12 @@
 //! The library as one side of the comparison.
 
-use oracle::state::{Call, Census, Lent, Lists, Reply, Side, State, Tables};
-use tukmiheb::entries::{self, RingLists};
+use crate::slices::{flag, Packed};
+use oracle::state::{Call, Census, Lent, Lists, Reply, Side, State};
+use tukmiheb::entries::{self, RingLists, Slices};
 use tukmiheb::Refusal;
 
-/// The library, with tables and lists that the comparison can look into.
+/// The library, with tables and lists that the comparison can look into. For each call the tables
+/// are packed into slices, and back.
 pub struct Library {
     state: State,
 }
@@ -33,46 +35,77 @@ impl Side for Library {
             lists,
         } = &mut self.state;
         let mut small = [*nodes, *edges, *stage];
+        let mut packed = Packed::of(tables);
         let (listed, mut rings) = lend_lists(lists, lent);
-        let answered = answer(
-            call,
-            &mut small,
-            &mut lend(tables, lent),
-            listed,
-            &mut rings,
-        );
+        let answered = answer(call, &mut small, &mut packed.lend(lent), listed, &mut rings);
+        packed.unpack(tables);
         [*nodes, *edges, *stage] = small;
         answered.unwrap_or_else(|refusal| Reply::Refused(refusal.number()))
     }
 }
 
-/// Makes the call; replies start out as what the library never answers.
-fn answer(
+/// Room for the longest reply and an entry past it, which has to stay.
+type Numbers = [u16; 8];
+
+/// What the library never answers.
+const UNWRITTEN: Numbers = [u16::MAX; 8];
+
+/// Makes a call on what is lent to it.
+pub fn answer(
     call: &Call,
     state: &mut [u16; 3],
-    tables: &mut entries::Tables,
+    slices: &mut Slices,
     listed: &mut [u16],
     rings: &mut RingLists,
 ) -> Result<Reply, Refusal> {
-    let mut reply = [u16::MAX; 7];
+    let mut reply = UNWRITTEN;
+    let answered = made(call, state, slices, listed, rings, &mut reply);
+    let written = answered.map_or(0, |()| reply_length(call));
+    assert_eq!(reply[written..], UNWRITTEN[written..], "{call:?}");
+    answered.map(|()| granted(call, reply))
+}
+
+fn made(
+    call: &Call,
+    state: &mut [u16; 3],
+    slices: &mut Slices,
+    listed: &mut [u16],
+    rings: &mut RingLists,
+    reply: &mut Numbers,
+) -> Result<(), Refusal> {
     match call {
-        Call::Create => entries::create(state, tables)?,
+        Call::Create => entries::create(state, slices),
         Call::Add(line) => {
             let (a, b) = (line.start, line.end);
             let values = [a.x, a.y, a.z, b.x, b.y, b.z];
-            entries::add_line(state, &values, line.line_id, tables, &mut reply[..2])?;
+            entries::add_line(state, &values, line.line_id, slices, front(reply))
         }
-        Call::Sort => entries::sort_edges(state, tables)?,
-        Call::Prune => entries::prune_dangles(state, tables, listed, &mut reply[..1])?,
-        Call::Cut => entries::delete_cut_edges(state, tables, listed, &mut reply[..6])?,
-        Call::Rings => entries::extract_rings(state, tables, rings, &mut reply)?,
-        Call::Reset => entries::reset(state, tables)?,
+        Call::Sort => entries::sort_edges(state, slices),
+        Call::Prune => entries::prune_dangles(state, slices, listed, front(reply)),
+        Call::Cut => entries::delete_cut_edges(state, slices, listed, front(reply)),
+        Call::Rings => entries::extract_rings(state, slices, rings, front(reply)),
+        Call::Reset => entries::reset(state, slices),
     }
-    Ok(granted(call, reply))
+}
+
+/// The first entries of what has room for a reply, as many as the reply has.
+pub fn front<T, const LENGTH: usize>(reply: &mut [T]) -> &mut [T; LENGTH] {
+    reply.first_chunk_mut().expect("room for every reply")
+}
+
+/// How many numbers the library answers.
+fn reply_length(call: &Call) -> usize {
+    match call {
+        Call::Create | Call::Sort | Call::Reset => 0,
+        Call::Prune => 1,
+        Call::Add(_) => 2,
+        Call::Cut => 6,
+        Call::Rings => 7,
+    }
 }
 
 /// The reply to a call that was not refused, by its numbers.
-fn granted(call: &Call, [count, counts @ .., comparisons]: [u16; 7]) -> Reply {
+fn granted(call: &Call, [count, counts @ .., comparisons, _]: Numbers) -> Reply {
     match call {
         Call::Create => Reply::Created,
         Call::Add(_) => Reply::Edge {
@@ -90,11 +123,6 @@ fn granted(call: &Call, [count, counts @ .., comparisons]: [u16; 7]) -> Reply {
     }
 }
 
-fn flag(number: u16) -> bool {
-    assert!(number < 2, "the library answered {number} for yes or no");
-    number == 1
-}
-
 fn census([vertices, edges, cycles, pieces, verdict]: [u16; 5]) -> Census {
     Census {
         vertices,
@@ -105,26 +133,19 @@ fn census([vertices, edges, cycles, pieces, verdict]: [u16; 5]) -> Census {
     }
 }
 
-/// The tables, one of them short where the call asks for it.
-pub fn lend<'a>(tables: &'a mut Tables, lent: &Lent) -> entries::Tables<'a> {
-    let mut lengths = tables.lengths();
-    for (table, length) in lengths.iter_mut().enumerate() {
-        *length = lent.table(table, *length);
-    }
-    let [x, y, z, degree, marked, line, id, src, dst, half, star] = lengths;
-    entries::Tables {
-        nodes_x: &mut tables.nodes_x[..x],
-        nodes_y: &mut tables.nodes_y[..y],
-        nodes_z: &mut tables.nodes_z[..z],
-        nodes_degree: &mut tables.nodes_degree[..degree],
-        nodes_marked: &mut tables.nodes_marked[..marked],
-        edges_line: &mut tables.edges_line[..line],
-        edges_line_id: &mut tables.edges_line_id[..id],
-        dir_edges_src: &mut tables.dir_edges_src[..src],
-        dir_edges_dst: &mut tables.dir_edges_dst[..dst],
-        dir_edges_marked: &mut tables.dir_edges_marked[..half],
-        nodes_outgoing: &mut tables.nodes_outgoing[..star],
-    }
+/// Adds the records of a file: how many were taken, and the number of what ended it.
+pub fn answer_file(
+    bytes: &[u8],
+    state: &mut [u16; 3],
+    slices: &mut Slices,
+) -> Result<[u64; 2], Refusal> {
+    const UNWRITTEN: [u64; 3] = [u64::MAX; 3];
+    let mut reply = UNWRITTEN;
+    let answered = entries::add_records(state, bytes, slices, front(&mut reply));
+    let written = answered.map_or(0, |()| 2);
+    assert_eq!(reply[written..], UNWRITTEN[written..], "a file");
+    let [taken, number, _] = reply;
+    answered.map(|()| [taken, number])
 }
 
 /// The result lists as they are lent: the one for edges, and the six for rings.

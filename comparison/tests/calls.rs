@@ -106,7 +106,8 @@ fn sound_tables() {
     assert!(both.tally.tied > 100);
 }
 
-/// Tables and lists that are longer than they need be: what lies past the limits stays.
+/// Tables and lists that are longer than they need be: what lies past the limits stays. The last
+/// table of a slice is lent longer, so that all slices are.
 #[test]
 fn longer_tables() {
     let mut state = State::default();

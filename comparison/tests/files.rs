@@ -3,29 +3,22 @@
 
 use comparison::inputs::{self, Segment, BOUND, STEPS};
 use comparison::random::Random;
+use comparison::{answer_file, Packed};
 use oracle::listing;
 use oracle::original::Line3D;
 use oracle::state::{Call, Lent, Reply, Side, State};
 use oracle::Oracle;
-use tukmiheb::entries;
 
 /// How many records were taken and the number of what ended it, or the refusal of the call.
 type Answer = Result<[u64; 2], u32>;
 
 fn add_file(state: &mut State, bytes: &[u8], lent: &Lent) -> Answer {
-    const UNWRITTEN: [u64; 2] = [u64::MAX; 2];
     let mut small = [state.nodes, state.edges, state.stage];
-    let mut reply = UNWRITTEN;
-    let mut tables = comparison::lend(&mut state.tables, lent);
-    let answered = entries::add_records(&mut small, bytes, &mut tables, &mut reply);
+    let mut packed = Packed::of(&state.tables);
+    let answered = answer_file(bytes, &mut small, &mut packed.lend(lent));
+    packed.unpack(&mut state.tables);
     [state.nodes, state.edges, state.stage] = small;
-    match answered {
-        Ok(()) => Ok(reply),
-        Err(refusal) => {
-            assert_eq!(reply, UNWRITTEN);
-            Err(refusal.number())
-        }
-    }
+    answered.map_err(|refusal| refusal.number())
 }
 
 fn add_lines(oracle: &mut Oracle, bytes: &[u8], lent: &Lent) -> Answer {

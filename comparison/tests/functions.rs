@@ -1,14 +1,12 @@
 //! The functions beside the graph: the angular order, the least rotation, records of a segment
-//! file; and slices that are too short, or longer than need be, for what an entry reads or answers.
+//! file. Each reply is lent with an entry past it, which has to stay.
 
-use comparison::inputs::{self, BOUND, STEPS};
+use comparison::front;
+use comparison::inputs::{self, BOUND};
 use comparison::random::Random;
-use oracle::calls::Line;
 use oracle::rotation::{self, Rotation};
 use oracle::stand_ins::Coord;
-use oracle::state::{Call, Lent, Reply, Side, State};
-use oracle::{listing, rules, Oracle};
-use std::fmt::Debug;
+use oracle::{listing, rules};
 use tukmiheb::entries;
 use tukmiheb::Refusal;
 
@@ -17,7 +15,7 @@ fn angular_order(points: [f64; 6]) {
     let at = |x: f64, y: f64| Coord { x, y };
     let expected = rules::compare_points(at(cx, cy), at(ax, ay), at(bx, by));
     let mut reply = [9, 9];
-    let answered = entries::compare_angular(&points, &mut reply);
+    let answered = entries::compare_angular(&points, front(&mut reply));
     let number = |refusal: Refusal| refusal.number();
     assert_eq!(
         answered.map_err(number),
@@ -66,7 +64,7 @@ fn least_rotation(keys: &[[u64; 2]]) {
     let ys: Vec<u64> = keys.iter().map(|key| key[1]).collect();
     let mut reply = [usize::MAX; 3];
     assert_eq!(
-        entries::minimum_rotation_index(&xs, &ys, &mut reply),
+        entries::minimum_rotation_index(&xs, &ys, front(&mut reply)),
         Ok(())
     );
     let Rotation { place, comparisons } = rotation::least_rotation(keys);
@@ -112,7 +110,7 @@ fn rotations_of_unequal_lengths() {
 fn record_at(bytes: &[u8], at: usize) {
     let mut line = [7.0; 7];
     let mut reply = [7; 4];
-    let answered = entries::read_record(bytes, at, &mut line, &mut reply);
+    let answered = entries::read_record(bytes, at, front(&mut line), front(&mut reply));
     match rules::read_record(bytes, at) {
         Err(refusal) => {
             assert_eq!(answered.unwrap_err().number(), refusal.number());
@@ -156,134 +154,4 @@ fn records() {
             record_at(&bytes, at);
         }
     }
-}
-
-const LINE: [f64; 6] = [0.0, 0.0, 0.0, 1.0, 0.0, 0.0];
-
-/// The counts and the stage with an entry too few.
-#[test]
-fn short_states() {
-    let mut state = State::default();
-    let tables = &mut comparison::lend(&mut state.tables, &Lent::FULL);
-    let (listed, mut rings) = comparison::lend_lists(&mut state.lists, &Lent::FULL);
-    let rings = &mut rings;
-    let small = &mut [0; 2];
-    let answers = [
-        entries::create(small, tables),
-        entries::add_line(small, &LINE, 1, tables, &mut [0; 2]),
-        entries::add_records(small, &[], tables, &mut [0; 2]),
-        entries::sort_edges(small, tables),
-        entries::prune_dangles(small, tables, listed, &mut [0; 1]),
-        entries::delete_cut_edges(small, tables, listed, &mut [0; 6]),
-        entries::extract_rings(small, tables, rings, &mut [0; 7]),
-        entries::reset(small, tables),
-    ];
-    assert_eq!(answers, [Err(Refusal::TableTooShort); 8]);
-}
-
-/// Replies with an entry too few, and the six values of a segment.
-#[test]
-fn short_replies() {
-    let mut state = State::default();
-    let tables = &mut comparison::lend(&mut state.tables, &Lent::FULL);
-    let (listed, mut rings) = comparison::lend_lists(&mut state.lists, &Lent::FULL);
-    let rings = &mut rings;
-    let small = &mut [0; 3];
-    let answers = [
-        entries::add_line(small, &LINE, 1, tables, &mut [0; 1]),
-        entries::add_records(small, &[], tables, &mut [0; 1]),
-        entries::prune_dangles(small, tables, listed, &mut []),
-        entries::delete_cut_edges(small, tables, listed, &mut [0; 5]),
-        entries::extract_rings(small, tables, rings, &mut [0; 6]),
-        entries::compare_angular(&LINE, &mut []),
-        entries::minimum_rotation_index(&[], &[], &mut [0; 1]),
-        entries::read_record(&[], 0, &mut [0.0; 6], &mut [0; 2]),
-        entries::read_record(&[], 0, &mut [0.0; 5], &mut [0; 3]),
-    ];
-    assert_eq!(answers, [Err(Refusal::ListTooShort); 9]);
-    assert_eq!(small, &[0; 3]);
-}
-
-/// Asks with replies of every length up to a few more than the answer has. A shorter one is refused
-/// and keeps its entries, a longer one keeps those past the answer.
-fn reply_of_every_length<T: Copy + Debug + PartialEq>(
-    answer: &[T],
-    unwritten: T,
-    mut ask: impl FnMut(&mut [T]) -> Result<(), Refusal>,
-) {
-    for length in 0..answer.len() + 4 {
-        let mut reply = vec![unwritten; length];
-        let mut expected = reply.clone();
-        let answered = ask(&mut reply);
-        if length < answer.len() {
-            assert_eq!(answered, Err(Refusal::ListTooShort));
-        } else {
-            assert_eq!(answered, Ok(()));
-            expected[..answer.len()].copy_from_slice(answer);
-        }
-        assert_eq!(reply, expected);
-    }
-}
-
-/// The place and the comparisons.
-#[test]
-fn lengths_of_the_rotation_reply() {
-    reply_of_every_length(&[1, 6], usize::MAX, |reply| {
-        entries::minimum_rotation_index(&[2, 1, 2, 1], &[0; 4], reply)
-    });
-}
-
-/// The count, the five numbers of the census, and the comparisons. Where the reply is refused, so
-/// is the call: the state stays, and else it is the oracle's.
-#[test]
-fn lengths_of_the_ring_reply() {
-    let mut oracle = Oracle::default();
-    let mut lines = inputs::traced(&inputs::grid(2, 2, 1));
-    lines.extend(STEPS[..3].iter().map(|&step| Line::Call(step)));
-    for line in lines {
-        if let Line::Call(call) = line {
-            oracle.call(&call, &Lent::FULL);
-        }
-    }
-    let cut = oracle.state().clone();
-    let answer = ring_numbers(oracle.call(&Call::Rings, &Lent::FULL));
-    reply_of_every_length(&answer, u16::MAX, |reply| {
-        let mut state = cut.clone();
-        let answered = extract_rings(&mut state, reply);
-        let expected = if answered.is_ok() {
-            oracle.state()
-        } else {
-            &cut
-        };
-        assert_eq!(state.difference(expected), None);
-        answered
-    });
-}
-
-fn ring_numbers(reply: Reply) -> [u16; 7] {
-    match reply {
-        Reply::Rings {
-            count,
-            census,
-            comparisons,
-        } => [
-            count,
-            census.vertices,
-            census.edges,
-            census.cycles,
-            census.pieces,
-            census.verdict.into(),
-            comparisons,
-        ],
-        _ => panic!("{reply:?}"),
-    }
-}
-
-fn extract_rings(state: &mut State, reply: &mut [u16]) -> Result<(), Refusal> {
-    let mut small = [state.nodes, state.edges, state.stage];
-    let tables = &mut comparison::lend(&mut state.tables, &Lent::FULL);
-    let (_, mut rings) = comparison::lend_lists(&mut state.lists, &Lent::FULL);
-    let answered = entries::extract_rings(&mut small, tables, &mut rings, reply);
-    [state.nodes, state.edges, state.stage] = small;
-    answered
 }

@@ -8,7 +8,7 @@
 //! show                         prints the state; calls nothing
 //! graph NODES EDGES STAGE      sets the counts and the stage (damage)
 //! set TABLE PLACE VALUE        sets an entry of a table, 0 to 10 in their order (damage)
-//! short TABLE                  the next call is lent this table one entry short
+//! short TABLE                  the next call is lent the slice with this table one entry short
 //! list LENGTH                  from now on the result lists are lent with this many entries
 //! ```
 //!

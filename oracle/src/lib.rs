@@ -1,8 +1,8 @@
 //! The original Rust methods, run beside the library on the same calls.
 //!
 //! [`Oracle`] answers every call of the library: document 01's refusals come from [`rules`], all
-//! else from the original's own methods in [`original`]. Its state lies in the library's layout
-//! ([`state`]), so that replies, tables and lists can be compared entry by entry.
+//! else from the original's own methods in [`original`]. Its state has the library's tables and lists
+//! ([`state`]), so that these and the replies can be compared entry by entry.
 //!
 //! Build it in release: the original checks more in debug builds, and document 01 compares release
 //! builds.

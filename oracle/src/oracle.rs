@@ -7,7 +7,7 @@ use crate::rules::{self, Named};
 use crate::stand_ins::{Coord, EdgeSources};
 use crate::state::{Call, Lent, Lists, Reply, Side, State, Tables};
 
-/// The original's graph, and the state in the library's layout.
+/// The original's graph, and the state in the library's tables.
 ///
 /// The graph is built by the original's own methods. Only where the state was written from outside
 /// is it filled from the tables, at the next call that is not refused.

@@ -1,5 +1,5 @@
-//! The library's layout: the eleven state tables, the result lists, the counts and the stage; the
-//! calls and what they answer.
+//! The state as the rules have it: the eleven tables, the result lists, the counts and the stage; the
+//! calls and what they answer. The library is lent the tables as regions of five slices.
 
 use crate::original::Line3D;
 
@@ -81,7 +81,8 @@ pub enum Call {
 /// How tables and lists are lent to one call.
 #[derive(Clone, Copy, Debug, PartialEq, Eq)]
 pub struct Lent {
-    /// The table that is one entry short of its least length.
+    /// The table that is one entry short of its least length. For the library it is the slice that
+    /// holds this table.
     pub short: Option<usize>,
     /// The entries of each list, in the order of [`Lists`].
     pub lists: [usize; 7],

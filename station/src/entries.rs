@@ -2,26 +2,26 @@
 //! [`Graph`](crate::Graph) is the simpler way.
 //!
 //! Every entry takes all inputs: short slices, damaged tables, calls in the wrong stage. On a
-//! refusal nothing that was lent has changed.
+//! refusal nothing that was lent has changed. The counts, the stage and the replies are arrays of
+//! exactly their size, so that none of them can be too short.
 
 use crate::ffi;
 use crate::Refusal;
 
-/// The eleven state tables, lent to a call. The least lengths are [`LEAST_LENGTHS`].
-pub struct Tables<'a> {
-    pub nodes_x: &'a mut [f64],
-    pub nodes_y: &'a mut [f64],
-    pub nodes_z: &'a mut [f64],
-    pub nodes_degree: &'a mut [u16],
-    pub nodes_marked: &'a mut [bool],
-    /// Start x, y, z and end x, y, z of edge k from 6 k on.
-    pub edges_line: &'a mut [f64],
-    pub edges_line_id: &'a mut [u32],
-    pub dir_edges_src: &'a mut [u16],
-    pub dir_edges_dst: &'a mut [u16],
-    pub dir_edges_marked: &'a mut [bool],
-    /// Every half-edge once. A node's star is what of it starts at the node, in this order.
-    pub nodes_outgoing: &'a mut [u16],
+/// The state tables as regions of five slices, lent to a call. [`layout`](crate::layout) says where
+/// each table lies, and the least length of each slice.
+pub struct Slices<'a> {
+    /// x, y and z of the nodes; segments.
+    pub floats: &'a mut [f64],
+    /// Where half-edges start; where they end.
+    pub numbers: &'a mut [u16],
+    /// The star table; degrees.
+    pub stars: &'a mut [u16],
+    /// Of nodes; of half-edges. A byte in use is 0 or 1, or the call is refused as unsound. A byte
+    /// that is not in use may hold anything and keeps it.
+    pub marks: &'a mut [u8],
+    /// Line ids.
+    pub ids: &'a mut [u32],
 }
 
 /// The six ring lists, lent to ring extraction. Each needs two entries for each edge.
@@ -35,25 +35,6 @@ pub struct RingLists<'a> {
     pub area: &'a mut [f64],
 }
 
-/// The most nodes and edges that a graph may have.
-pub const NODE_LIMIT: usize = 1024;
-pub const EDGE_LIMIT: usize = 1024;
-
-/// How many entries each table needs, in the tables' order.
-pub const LEAST_LENGTHS: [usize; 11] = [
-    NODE_LIMIT,
-    NODE_LIMIT,
-    NODE_LIMIT,
-    NODE_LIMIT,
-    NODE_LIMIT,
-    6 * EDGE_LIMIT,
-    EDGE_LIMIT,
-    2 * EDGE_LIMIT,
-    2 * EDGE_LIMIT,
-    2 * EDGE_LIMIT,
-    2 * EDGE_LIMIT,
-];
-
 fn answered(number: u32) -> Result<(), Refusal> {
     match number {
         0 => Ok(()),
@@ -61,64 +42,52 @@ fn answered(number: u32) -> Result<(), Refusal> {
     }
 }
 
-/// Calls an entry with the state, what goes before the tables, the tables, and what goes after.
+/// Calls an entry with the state, what goes before the slices, the slices, and what goes after.
 macro_rules! lend {
-    ($entry:ident, $state:ident, [$($before:expr),*], $tables:ident, [$($after:expr),*]) => {
-        // SAFETY: each pointer and length is that of a slice which is lent to this call alone; the
-        // library stays within the lengths and keeps no pointer.
+    ($entry:ident, $state:ident, [$($before:expr),*], $slices:ident, [$($after:expr),*]) => {
+        // SAFETY: each pointer and length is that of a slice, and each pointer alone that of an
+        // array, which is lent to this call alone; the library stays within them and keeps no
+        // pointer.
         answered(unsafe {
             ffi::$entry(
-                $state.as_mut_ptr(),
-                $state.len(),
+                $state,
                 $($before,)*
-                $tables.nodes_x.as_mut_ptr(),
-                $tables.nodes_x.len(),
-                $tables.nodes_y.as_mut_ptr(),
-                $tables.nodes_y.len(),
-                $tables.nodes_z.as_mut_ptr(),
-                $tables.nodes_z.len(),
-                $tables.nodes_degree.as_mut_ptr(),
-                $tables.nodes_degree.len(),
-                $tables.nodes_marked.as_mut_ptr(),
-                $tables.nodes_marked.len(),
-                $tables.edges_line.as_mut_ptr(),
-                $tables.edges_line.len(),
-                $tables.edges_line_id.as_mut_ptr(),
-                $tables.edges_line_id.len(),
-                $tables.dir_edges_src.as_mut_ptr(),
-                $tables.dir_edges_src.len(),
-                $tables.dir_edges_dst.as_mut_ptr(),
-                $tables.dir_edges_dst.len(),
-                $tables.dir_edges_marked.as_mut_ptr(),
-                $tables.dir_edges_marked.len(),
-                $tables.nodes_outgoing.as_mut_ptr(),
-                $tables.nodes_outgoing.len(),
+                $slices.floats.as_mut_ptr(),
+                $slices.floats.len(),
+                $slices.numbers.as_mut_ptr(),
+                $slices.numbers.len(),
+                $slices.stars.as_mut_ptr(),
+                $slices.stars.len(),
+                $slices.marks.as_mut_ptr(),
+                $slices.marks.len(),
+                $slices.ids.as_mut_ptr(),
+                $slices.ids.len(),
                 $($after,)*
             )
         })
     };
 }
 
-/// Sets `state` (node count, edge count, stage) to an empty graph. No table is written.
-pub fn create(state: &mut [u16], tables: &mut Tables) -> Result<(), Refusal> {
-    lend!(tukmiheb_create, state, [], tables, [])
+/// Sets `state` (node count, edge count, stage) to an empty graph. No slice is written.
+pub fn create(state: &mut [u16; 3], slices: &mut Slices) -> Result<(), Refusal> {
+    lend!(tukmiheb_create, state, [], slices, [])
 }
 
 /// Adds a line, start x, y, z and end x, y, z. `reply` gets the edge, and 1 if it is new.
 pub fn add_line(
-    state: &mut [u16],
+    state: &mut [u16; 3],
     line: &[f64; 6],
     line_id: u32,
-    tables: &mut Tables,
-    reply: &mut [u16],
+    slices: &mut Slices,
+    reply: &mut [u16; 2],
 ) -> Result<(), Refusal> {
     let [x1, y1, z1, x2, y2, z2] = *line;
     lend!(
         tukmiheb_add_line,
         state,
         [x1, y1, z1, x2, y2, z2, line_id],
-        tables,
-        [reply.as_mut_ptr(), reply.len()]
+        slices,
+        [reply]
     )
 }
 
@@ -126,81 +95,72 @@ pub fn add_line(
 /// many were taken, and the number of what ended it: 0 at the end, else that of the refusal. The
 /// records before a refused one stay added, so the call itself succeeds there.
 pub fn add_records(
-    state: &mut [u16],
+    state: &mut [u16; 3],
     bytes: &[u8],
-    tables: &mut Tables,
-    reply: &mut [u64],
+    slices: &mut Slices,
+    reply: &mut [u64; 2],
 ) -> Result<(), Refusal> {
     lend!(
         tukmiheb_add_records,
         state,
         [bytes.as_ptr(), bytes.len()],
-        tables,
-        [reply.as_mut_ptr(), reply.len()]
+        slices,
+        [reply]
     )
 }
 
-/// Puts every star in angular order: stage 0 to 1.
-pub fn sort_edges(state: &mut [u16], tables: &mut Tables) -> Result<(), Refusal> {
-    lend!(tukmiheb_sort_edges, state, [], tables, [])
+/// Puts every star in angular order: stage 0 to 1. Of the slices only the stars are written.
+pub fn sort_edges(state: &mut [u16; 3], slices: &mut Slices) -> Result<(), Refusal> {
+    lend!(tukmiheb_sort_edges, state, [], slices, [])
 }
 
-/// Marks dangles: stage 1 to 2. `reply` gets their count, `dangles` their edges.
+/// Marks dangles: stage 1 to 2. `reply` gets their count, `dangles` their edges. Of the slices the
+/// degrees in the stars and the marks are written.
 pub fn prune_dangles(
-    state: &mut [u16],
-    tables: &mut Tables,
+    state: &mut [u16; 3],
+    slices: &mut Slices,
     dangles: &mut [u16],
-    reply: &mut [u16],
+    reply: &mut [u16; 1],
 ) -> Result<(), Refusal> {
     lend!(
         tukmiheb_prune_dangles,
         state,
         [],
-        tables,
-        [
-            dangles.as_mut_ptr(),
-            dangles.len(),
-            reply.as_mut_ptr(),
-            reply.len()
-        ]
+        slices,
+        [dangles.as_mut_ptr(), dangles.len(), reply]
     )
 }
 
 /// Marks cut edges: stage 2 to 3. `reply` gets their count, V, E, cycles, C and the verdict (1 or
-/// 0), `cuts` their edges.
+/// 0), `cuts` their edges. Of the slices only the marks are written.
 pub fn delete_cut_edges(
-    state: &mut [u16],
-    tables: &mut Tables,
+    state: &mut [u16; 3],
+    slices: &mut Slices,
     cuts: &mut [u16],
-    reply: &mut [u16],
+    reply: &mut [u16; 6],
 ) -> Result<(), Refusal> {
     lend!(
         tukmiheb_delete_cut_edges,
         state,
         [],
-        tables,
-        [
-            cuts.as_mut_ptr(),
-            cuts.len(),
-            reply.as_mut_ptr(),
-            reply.len()
-        ]
+        slices,
+        [cuts.as_mut_ptr(), cuts.len(), reply]
     )
 }
 
 /// Lists the rings: stage 3 to 4. `reply` gets their count, V, E, cycles, C, the verdict, and how
-/// often the least-rotation searches of all rings compared two keys.
+/// often the least-rotation searches of all rings compared two keys. No slice is written.
 pub fn extract_rings(
-    state: &mut [u16],
-    tables: &mut Tables,
+    state: &mut [u16; 3],
+    slices: &mut Slices,
     rings: &mut RingLists,
-    reply: &mut [u16],
+    reply: &mut [u16; 7],
 ) -> Result<(), Refusal> {
     lend!(
         tukmiheb_extract_rings,
         state,
         [],
-        tables,
+        slices,
         [
             rings.half_edges.as_mut_ptr(),
             rings.half_edges.len(),
@@ -214,15 +174,15 @@ pub fn extract_rings(
             rings.side.len(),
             rings.area.as_mut_ptr(),
             rings.area.len(),
-            reply.as_mut_ptr(),
-            reply.len()
+            reply
         ]
     )
 }
 
-/// Unmarks everything: any stage to 0.
-pub fn reset(state: &mut [u16], tables: &mut Tables) -> Result<(), Refusal> {
-    lend!(tukmiheb_reset, state, [], tables, [])
+/// Unmarks everything: any stage to 0. Of the slices the degrees in the stars and the marks are
+/// written.
+pub fn reset(state: &mut [u16; 3], slices: &mut Slices) -> Result<(), Refusal> {
+    lend!(tukmiheb_reset, state, [], slices, [])
 }
 
 /// Reads what stands at a place of a segment file. `reply` gets 1 for a segment or 0 for the end,
@@ -230,45 +190,30 @@ pub fn reset(state: &mut [u16], tables: &mut Tables) -> Result<(), Refusal> {
 pub fn read_record(
     bytes: &[u8],
     at: usize,
-    line: &mut [f64],
-    reply: &mut [u64],
+    line: &mut [f64; 6],
+    reply: &mut [u64; 3],
 ) -> Result<(), Refusal> {
     // SAFETY: as in `lend`.
-    answered(unsafe {
-        ffi::tukmiheb_read_record(
-            bytes.as_ptr(),
-            bytes.len(),
-            at,
-            line.as_mut_ptr(),
-            line.len(),
-            reply.as_mut_ptr(),
-            reply.len(),
-        )
-    })
+    answered(unsafe { ffi::tukmiheb_read_record(bytes.as_ptr(), bytes.len(), at, line, reply) })
 }
 
 /// Compares the directions from a centre to two targets (`points`: x and y of the three). `reply`
 /// gets 0 where the first comes before the second counterclockwise, 1 where they are the same, or 2.
-pub fn compare_angular(points: &[f64; 6], reply: &mut [u8]) -> Result<(), Refusal> {
+pub fn compare_angular(points: &[f64; 6], reply: &mut [u8; 1]) -> Result<(), Refusal> {
     let [cx, cy, ax, ay, bx, by] = *points;
     // SAFETY: as in `lend`.
-    answered(unsafe {
-        ffi::tukmiheb_compare_angular(cx, cy, ax, ay, bx, by, reply.as_mut_ptr(), reply.len())
-    })
+    answered(unsafe { ffi::tukmiheb_compare_angular(cx, cy, ax, ay, bx, by, reply) })
 }
 
 /// Finds the least rotation of a ring of keys; key i is (`xs[i]`, `ys[i]`). `reply` gets the place
 /// at which it starts, and how often the search compared two keys.
-pub fn minimum_rotation_index(xs: &[u64], ys: &[u64], reply: &mut [usize]) -> Result<(), Refusal> {
+pub fn minimum_rotation_index(
+    xs: &[u64],
+    ys: &[u64],
+    reply: &mut [usize; 2],
+) -> Result<(), Refusal> {
     // SAFETY: as in `lend`.
     answered(unsafe {
-        ffi::tukmiheb_minimum_rotation_index(
-            xs.as_ptr(),
-            xs.len(),
-            ys.as_ptr(),
-            ys.len(),
-            reply.as_mut_ptr(),
-            reply.len(),
-        )
+        ffi::tukmiheb_minimum_rotation_index(xs.as_ptr(), xs.len(), ys.as_ptr(), ys.len(), reply)
     })
 }

@@ -1,105 +1,116 @@
 //! The entries of the static library, as C sees them.
 //!
-//! A slice is two arguments, a pointer and a length. Every entry answers 0, or the number of its
-//! refusal, after which nothing lent has been written. An entry reads and writes within the lengths
-//! that it is given, whatever the slices hold, and keeps none of the pointers.
+//! A slice is two arguments, a pointer and a length; an array is one, a pointer to exactly its size.
+//! Every entry answers 0, or the number of its refusal, after which nothing lent has been written.
+//! An entry reads and writes within the lengths, whatever the slices hold, and keeps none of the
+//! pointers. It only reads what is `const`.
 
-/// Declares an entry that is lent the eleven tables, between its other arguments.
+/// Declares an entry that is lent the five slices, between its other arguments.
 macro_rules! graph_entry {
-    ($name:ident($($before:ident: $before_type:ty),*; $($after:ident: $after_type:ty),*)) => {
+    (
+        $name:ident($($before:ident: $before_type:ty),*),
+        $floats:tt floats, $numbers:tt numbers, $stars:tt stars, $marks:tt marks, $ids:tt ids,
+        ($($after:ident: $after_type:ty),*)
+    ) => {
         extern "C" {
             pub fn $name(
-                state: *mut u16,
-                state_length: usize,
+                state: *mut [u16; 3],
                 $($before: $before_type,)*
-                nodes_x: *mut f64,
-                nodes_x_length: usize,
-                nodes_y: *mut f64,
-                nodes_y_length: usize,
-                nodes_z: *mut f64,
-                nodes_z_length: usize,
-                nodes_degree: *mut u16,
-                nodes_degree_length: usize,
-                nodes_marked: *mut bool,
-                nodes_marked_length: usize,
-                edges_line: *mut f64,
-                edges_line_length: usize,
-                edges_line_id: *mut u32,
-                edges_line_id_length: usize,
-                dir_edges_src: *mut u16,
-                dir_edges_src_length: usize,
-                dir_edges_dst: *mut u16,
-                dir_edges_dst_length: usize,
-                dir_edges_marked: *mut bool,
-                dir_edges_marked_length: usize,
-                nodes_outgoing: *mut u16,
-                nodes_outgoing_length: usize,
+                floats: *$floats f64,
+                floats_length: usize,
+                numbers: *$numbers u16,
+                numbers_length: usize,
+                stars: *$stars u16,
+                stars_length: usize,
+                marks: *$marks u8,
+                marks_length: usize,
+                ids: *$ids u32,
+                ids_length: usize,
                 $($after: $after_type,)*
             ) -> u32;
         }
     };
 }
 
-graph_entry!(tukmiheb_create(;));
-graph_entry!(tukmiheb_add_line(
-    x1: f64,
-    y1: f64,
-    z1: f64,
-    x2: f64,
-    y2: f64,
-    z2: f64,
-    line_id: u32;
-    reply: *mut u16,
-    reply_length: usize
-));
-graph_entry!(tukmiheb_add_records(
-    bytes: *const u8,
-    bytes_length: usize;
-    reply: *mut u64,
-    reply_length: usize
-));
-graph_entry!(tukmiheb_sort_edges(;));
-graph_entry!(tukmiheb_prune_dangles(;
-    dangles: *mut u16,
-    dangles_length: usize,
-    reply: *mut u16,
-    reply_length: usize
-));
-graph_entry!(tukmiheb_delete_cut_edges(;
-    cuts: *mut u16,
-    cuts_length: usize,
-    reply: *mut u16,
-    reply_length: usize
-));
-graph_entry!(tukmiheb_extract_rings(;
-    half_edges: *mut u16,
-    half_edges_length: usize,
-    ring_first: *mut u16,
-    ring_first_length: usize,
-    ring_length: *mut u16,
-    ring_length_length: usize,
-    ring_face: *mut u16,
-    ring_face_length: usize,
-    ring_side: *mut u8,
-    ring_side_length: usize,
-    ring_area: *mut f64,
-    ring_area_length: usize,
-    reply: *mut u16,
-    reply_length: usize
-));
-graph_entry!(tukmiheb_reset(;));
+// ---- station_building
+
+graph_entry!(
+    tukmiheb_create(),
+    const floats, const numbers, const stars, const marks, const ids,
+    ()
+);
+graph_entry!(
+    tukmiheb_add_line(x1: f64, y1: f64, z1: f64, x2: f64, y2: f64, z2: f64, line_id: u32),
+    mut floats, mut numbers, mut stars, mut marks, mut ids,
+    (reply: *mut [u16; 2])
+);
+
+// ---- station_files
+
+graph_entry!(
+    tukmiheb_add_records(bytes: *const u8, bytes_length: usize),
+    mut floats, mut numbers, mut stars, mut marks, mut ids,
+    (reply: *mut [u64; 2])
+);
 
 extern "C" {
     pub fn tukmiheb_read_record(
         bytes: *const u8,
         bytes_length: usize,
         at: usize,
-        line: *mut f64,
-        line_length: usize,
-        reply: *mut u64,
-        reply_length: usize,
+        line: *mut [f64; 6],
+        reply: *mut [u64; 3],
     ) -> u32;
+}
 
+// ---- station_steps
+
+graph_entry!(
+    tukmiheb_sort_edges(),
+    const floats, const numbers, mut stars, const marks, const ids,
+    ()
+);
+graph_entry!(
+    tukmiheb_prune_dangles(),
+    const floats, const numbers, mut stars, mut marks, const ids,
+    (dangles: *mut u16, dangles_length: usize, reply: *mut [u16; 1])
+);
+graph_entry!(
+    tukmiheb_delete_cut_edges(),
+    const floats, const numbers, const stars, mut marks, const ids,
+    (cuts: *mut u16, cuts_length: usize, reply: *mut [u16; 6])
+);
+graph_entry!(
+    tukmiheb_reset(),
+    const floats, const numbers, mut stars, mut marks, const ids,
+    ()
+);
+
+// ---- station_rings
+
+graph_entry!(
+    tukmiheb_extract_rings(),
+    const floats, const numbers, const stars, const marks, const ids,
+    (
+        half_edges: *mut u16,
+        half_edges_length: usize,
+        ring_first: *mut u16,
+        ring_first_length: usize,
+        ring_length: *mut u16,
+        ring_length_length: usize,
+        ring_face: *mut u16,
+        ring_face_length: usize,
+        ring_side: *mut u8,
+        ring_side_length: usize,
+        ring_area: *mut f64,
+        ring_area_length: usize,
+        reply: *mut [u16; 7]
+    )
+);
+
+// ---- station_questions
+
+extern "C" {
     pub fn tukmiheb_compare_angular(
         cx: f64,
         cy: f64,
@@ -107,8 +118,7 @@ extern "C" {
         ay: f64,
         bx: f64,
         by: f64,
-        reply: *mut u8,
-        reply_length: usize,
+        reply: *mut [u8; 1],
     ) -> u32;
 
     pub fn tukmiheb_minimum_rotation_index(
@@ -116,7 +126,6 @@ extern "C" {
         xs_length: usize,
         ys: *const u64,
         ys_length: usize,
-        reply: *mut usize,
-        reply_length: usize,
+        reply: *mut [usize; 2],
     ) -> u32;
 }

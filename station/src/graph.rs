@@ -1,6 +1,10 @@
 //! A graph that owns its tables.
 
-use crate::entries::{self, RingLists, Tables, EDGE_LIMIT, LEAST_LENGTHS};
+use crate::entries::{self, RingLists, Slices};
+use crate::layout::{
+    EDGE_LIMIT, FLOATS, HALF_EDGE_LIMIT, HALF_EDGE_MARKS, IDS, MARKS, NODES_X, NODES_Y, NODES_Z,
+    NUMBERS, SEGMENTS, SEGMENT_FLOATS, SOURCES, STARS, TARGETS,
+};
 use crate::{Refusal, Rings};
 
 /// The number of a node.
@@ -132,24 +136,18 @@ pub struct Cuts {
 pub struct Graph {
     /// Node count, edge count, stage.
     state: [u16; 3],
-    tables: OwnedTables,
+    slices: OwnedSlices,
     listed: Vec<u16>,
     pub(crate) rings: OwnedRings,
 }
 
 #[derive(Clone, Debug)]
-struct OwnedTables {
-    nodes_x: Vec<f64>,
-    nodes_y: Vec<f64>,
-    nodes_z: Vec<f64>,
-    nodes_degree: Vec<u16>,
-    nodes_marked: Vec<bool>,
-    edges_line: Vec<f64>,
-    edges_line_id: Vec<u32>,
-    dir_edges_src: Vec<u16>,
-    dir_edges_dst: Vec<u16>,
-    dir_edges_marked: Vec<bool>,
-    nodes_outgoing: Vec<u16>,
+struct OwnedSlices {
+    floats: Vec<f64>,
+    numbers: Vec<u16>,
+    stars: Vec<u16>,
+    marks: Vec<u8>,
+    ids: Vec<u32>,
 }
 
 #[derive(Clone, Debug)]
@@ -162,37 +160,24 @@ pub(crate) struct OwnedRings {
     pub area: Vec<f64>,
 }
 
-impl OwnedTables {
+impl OwnedSlices {
     fn new() -> Self {
-        let [x, y, z, degree, marked, line, id, src, dst, half, star] = LEAST_LENGTHS;
-        OwnedTables {
-            nodes_x: vec![0.0; x],
-            nodes_y: vec![0.0; y],
-            nodes_z: vec![0.0; z],
-            nodes_degree: vec![0; degree],
-            nodes_marked: vec![false; marked],
-            edges_line: vec![0.0; line],
-            edges_line_id: vec![0; id],
-            dir_edges_src: vec![0; src],
-            dir_edges_dst: vec![0; dst],
-            dir_edges_marked: vec![false; half],
-            nodes_outgoing: vec![0; star],
+        OwnedSlices {
+            floats: vec![0.0; FLOATS],
+            numbers: vec![0; NUMBERS],
+            stars: vec![0; STARS],
+            marks: vec![0; MARKS],
+            ids: vec![0; IDS],
         }
     }
 
-    fn lend(&mut self) -> Tables<'_> {
-        Tables {
-            nodes_x: &mut self.nodes_x,
-            nodes_y: &mut self.nodes_y,
-            nodes_z: &mut self.nodes_z,
-            nodes_degree: &mut self.nodes_degree,
-            nodes_marked: &mut self.nodes_marked,
-            edges_line: &mut self.edges_line,
-            edges_line_id: &mut self.edges_line_id,
-            dir_edges_src: &mut self.dir_edges_src,
-            dir_edges_dst: &mut self.dir_edges_dst,
-            dir_edges_marked: &mut self.dir_edges_marked,
-            nodes_outgoing: &mut self.nodes_outgoing,
+    fn lend(&mut self) -> Slices<'_> {
+        Slices {
+            floats: &mut self.floats,
+            numbers: &mut self.numbers,
+            stars: &mut self.stars,
+            marks: &mut self.marks,
+            ids: &mut self.ids,
         }
     }
 }
@@ -228,13 +213,14 @@ impl Default for Graph {
 }
 
 impl Graph {
-    /// An empty graph, with tables for 1,024 nodes and 1,024 edges.
+    /// An empty graph, with room for [`NODE_LIMIT`](crate::layout::NODE_LIMIT) nodes and
+    /// [`EDGE_LIMIT`] edges.
     pub fn new() -> Self {
         let mut graph = Graph {
             state: [0; 3],
-            tables: OwnedTables::new(),
+            slices: OwnedSlices::new(),
             listed: vec![0; EDGE_LIMIT],
-            rings: OwnedRings::new(2 * EDGE_LIMIT),
+            rings: OwnedRings::new(HALF_EDGE_LIMIT),
         };
         graph.clear();
         graph
@@ -242,8 +228,8 @@ impl Graph {
 
     /// Makes the graph empty again.
     pub fn clear(&mut self) {
-        entries::create(&mut self.state, &mut self.tables.lend())
-            .expect("the tables are as long as the limits need");
+        entries::create(&mut self.state, &mut self.slices.lend())
+            .expect("the slices are as long as the limits need");
     }
 
     /// Adds a segment (stage `Building`). A segment between two nodes that are joined already
@@ -254,7 +240,7 @@ impl Graph {
             &mut self.state,
             &line.values(),
             line.line_id,
-            &mut self.tables.lend(),
+            &mut self.slices.lend(),
             &mut reply,
         )?;
         Ok(Added {
@@ -269,7 +255,7 @@ impl Graph {
     /// them for each.
     pub fn add_records(&mut self, bytes: &[u8]) -> Result<Records, Refusal> {
         let mut reply = [0; 2];
-        entries::add_records(&mut self.state, bytes, &mut self.tables.lend(), &mut reply)?;
+        entries::add_records(&mut self.state, bytes, &mut self.slices.lend(), &mut reply)?;
         let [taken, number] = reply;
         Ok(Records {
             taken: taken as usize,
@@ -279,7 +265,7 @@ impl Graph {
 
     /// Puts the half-edges around every node in angular order (`Building` to `Sorted`).
     pub fn sort_edges(&mut self) -> Result<(), Refusal> {
-        entries::sort_edges(&mut self.state, &mut self.tables.lend())
+        entries::sort_edges(&mut self.state, &mut self.slices.lend())
     }
 
     /// Marks dangles and answers their edges in the order found (`Sorted` to `Pruned`).
@@ -287,7 +273,7 @@ impl Graph {
         let mut reply = [0; 1];
         entries::prune_dangles(
             &mut self.state,
-            &mut self.tables.lend(),
+            &mut self.slices.lend(),
             &mut self.listed,
             &mut reply,
         )?;
@@ -299,7 +285,7 @@ impl Graph {
         let mut reply = [0; 6];
         entries::delete_cut_edges(
             &mut self.state,
-            &mut self.tables.lend(),
+            &mut self.slices.lend(),
             &mut self.listed,
             &mut reply,
         )?;
@@ -315,7 +301,7 @@ impl Graph {
         let mut reply = [0; 7];
         entries::extract_rings(
             &mut self.state,
-            &mut self.tables.lend(),
+            &mut self.slices.lend(),
             &mut self.rings.lend(),
             &mut reply,
         )?;
@@ -326,7 +312,7 @@ impl Graph {
 
     /// Unmarks everything, in any stage, so that segments can be added again (to `Building`).
     pub fn reset(&mut self) -> Result<(), Refusal> {
-        entries::reset(&mut self.state, &mut self.tables.lend())
+        entries::reset(&mut self.state, &mut self.slices.lend())
     }
 
     pub fn node_count(&self) -> usize {
@@ -350,39 +336,30 @@ impl Graph {
     /// Where a node lies, if the graph has it: the first point that was given for it.
     pub fn node(&self, node: NodeId) -> Option<Coord3D> {
         let place = within(node.0, self.node_count())?;
-        let tables = &self.tables;
-        Some(Coord3D::new(
-            tables.nodes_x[place],
-            tables.nodes_y[place],
-            tables.nodes_z[place],
-        ))
+        let [x, y, z] = [NODES_X, NODES_Y, NODES_Z].map(|table| self.slices.floats[table + place]);
+        Some(Coord3D::new(x, y, z))
     }
 
     /// The first segment that was given for an edge.
     pub fn line(&self, edge: EdgeId) -> Option<Line3D> {
         let place = within(edge.0, self.edge_count())?;
-        let values = &self.tables.edges_line[6 * place..6 * place + 6];
-        let values = values.try_into().expect("six values");
-        Some(Line3D::from_values(
-            values,
-            self.tables.edges_line_id[place],
-        ))
+        let values = &self.slices.floats[SEGMENTS + SEGMENT_FLOATS * place..][..SEGMENT_FLOATS];
+        let values = values.try_into().expect("the values of a segment");
+        Some(Line3D::from_values(values, self.slices.ids[place]))
     }
 
     /// Where a half-edge starts and where it ends.
     pub fn ends(&self, half_edge: DirEdgeId) -> Option<(NodeId, NodeId)> {
         let place = within(half_edge.0, 2 * self.edge_count())?;
-        let tables = &self.tables;
-        Some((
-            NodeId(tables.dir_edges_src[place]),
-            NodeId(tables.dir_edges_dst[place]),
-        ))
+        let [source, target] = [SOURCES, TARGETS].map(|table| self.slices.numbers[table + place]);
+        Some((NodeId(source), NodeId(target)))
     }
 
     /// Whether an edge is marked, as a dangle or as a cut edge.
     pub fn is_marked(&self, edge: EdgeId) -> Option<bool> {
         let place = within(edge.0, self.edge_count())?;
-        Some(self.tables.dir_edges_marked[2 * place])
+        // Both half-edges of an edge are marked alike.
+        Some(self.slices.marks[HALF_EDGE_MARKS + 2 * place] == 1)
     }
 
     fn listed_edges(&self, count: u16) -> Vec<EdgeId> {

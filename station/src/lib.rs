@@ -2,7 +2,15 @@
 //!
 //! The work is done by a static library that is proved to do what its definitions say, on every
 //! input. This crate lends it tables, numbers and byte slices and hands out what comes back. Build
-//! the library first, by `rt staticlib station` in the root of the repository.
+//! the library's five archives first, in the root of the repository:
+//!
+//! ```text
+//! rt staticlib station_building
+//! rt staticlib station_files
+//! rt staticlib station_steps
+//! rt staticlib station_rings
+//! rt staticlib station_questions
+//! ```
 //!
 //! ```
 //! use tukmiheb::{Coord3D, Graph, Line3D, Refusal};
@@ -38,6 +46,7 @@
 pub mod entries;
 mod ffi;
 mod graph;
+pub mod layout;
 mod refusal;
 mod rings;
 mod rotation;

@@ -66,8 +66,8 @@ impl Refusal {
         match self {
             Refusal::NotWhole => "An x or y is not a whole number from -1,048,576 to 1,048,576.",
             Refusal::SameNode => "Both ends of the segment are the same node.",
-            Refusal::TooManyNodes => "The segment would make more than 1,024 nodes.",
-            Refusal::TooManyEdges => "The segment would make more than 1,024 edges.",
+            Refusal::TooManyNodes => "The segment would make more nodes than a graph may have.",
+            Refusal::TooManyEdges => "The segment would make more edges than a graph may have.",
             Refusal::WrongStage => "The graph is in another stage than this call needs.",
             Refusal::TableTooShort => "A table is shorter than the limits need.",
             Refusal::Unsound => "The tables contradict themselves.",

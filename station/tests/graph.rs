@@ -1,5 +1,6 @@
 //! The wrapper: what it hands out is what the library answered.
 
+use tukmiheb::layout::{EDGE_LIMIT, NODE_LIMIT};
 use tukmiheb::{
     least_rotation, segments, Coord3D, DirEdgeId, EdgeId, FaceId, Graph, Line3D, NodeId, Records,
     Refusal, Rotation, Side, Stage,
@@ -96,6 +97,37 @@ fn reset_and_clear() {
     assert_eq!(graph.is_marked(EdgeId(3)), Some(false));
     graph.clear();
     assert_eq!((graph.node_count(), graph.edge_count()), (0, 0));
+}
+
+/// One ring of as many nodes and edges as a graph may have: the last entries of its tables.
+#[test]
+fn full_tables() {
+    const { assert!(NODE_LIMIT == EDGE_LIMIT) };
+    let count = NODE_LIMIT as u16;
+    let corner = |number: u16| {
+        let number = i32::from(number % count);
+        let far = i32::from(count / 2);
+        [number.min(2 * far - 1 - number), number / far]
+    };
+    let joined = |a: u16, b: u16| {
+        let ([x1, y1], [x2, y2]) = (corner(a), corner(b));
+        line(x1, y1, x2, y2, a.into())
+    };
+    let mut graph = Graph::new();
+    for number in 0..count {
+        let added = graph.add_line(&joined(number, number + 1));
+        assert_eq!(added.map(|added| added.edge), Ok(EdgeId(number)));
+    }
+    let last = count - 1;
+    assert_eq!(graph.node(NodeId(last)), Some(joined(last, 0).start));
+    assert_eq!(graph.line(EdgeId(last)), Some(joined(last, 0)));
+    let twin = DirEdgeId(2 * last + 1);
+    assert_eq!(graph.ends(twin), Some((NodeId(0), NodeId(last))));
+    assert_eq!(graph.is_marked(EdgeId(last)), Some(false));
+    let chord = graph.add_line(&joined(0, 2));
+    assert_eq!(chord, Err(Refusal::TooManyEdges));
+    let new_node = graph.add_line(&line(0, 0, 0, -1, 9));
+    assert_eq!(new_node, Err(Refusal::TooManyNodes));
 }
 
 /// Document 01's least rotations, with their comparisons worked by hand.

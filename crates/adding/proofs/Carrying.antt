@@ -145,8 +145,8 @@ module _ (g : Line3D) (s : State) (ready : Ready limits s) where
       demand-true (roomy limits s) 6 s none _ (ready .room)
       ∙ demand-true (sound limits s) 7 s none _ (ready .sense)
       ∙ demand-true (eqb (s .stage) 0) 5 s none _ (eq-eqb (s .stage) 0 (ready .stage))
-      ∙ carry (planar 1048576 (g .start) && planar 1048576 (g .end)) (keySame (keyOf (g .start .x) (g .start .y)) (keyOf (g .end .x) (g .end .y)))
-      (ltb h (2 * s .edges)) (leb (s .nodes + (one (e .«new_start») + one (e .«new_end»))) 1024) (ltb (s .edges) 1024) (record { 0 = edgeOf h }) e g s none
+      ∙ carry (planar (limits .bound) (g .start) && planar (limits .bound) (g .end)) (keySame (keyOf (g .start .x) (g .start .y)) (keyOf (g .end .x) (g .end .y)))
+      (ltb h (2 * s .edges)) (leb (s .nodes + (one (e .«new_start») + one (e .«new_end»))) (limits .nodes)) (ltb (s .edges) (limits .edges)) (record { 0 = edgeOf h }) e g s none
       ∙ ap (λ z. carried (decisionBy limits g (s .nodes) (s .edges) u w z) g s) (ends-half (s .nodes) (s .edges) (s .source) (s .target) (s .star) (searchable s ready .within) u w)
 
   -- what the code decides from what it found
@@ -164,8 +164,8 @@ module _ (g : Line3D) (s : State) (ready : Ready limits s) where
       let w = findNodeIn (s .nodes) (s .nodeX) (s .nodeY) (keyOf (g .end .x) (g .end .y)) in
       let d = endsBy (s .nodes) u w in
       let h = findHalfIn (s .edges) (s .source) (s .target) (s .star) u w in
-      let t = told (planar 1048576 (g .start) && planar 1048576 (g .end)) (keySame (keyOf (g .start .x) (g .start .y)) (keyOf (g .end .x) (g .end .y)))
-      (ltb h (2 * s .edges)) (leb (s .nodes + (one (d .«new_start») + one (d .«new_end»))) 1024) (ltb (s .edges) 1024) (record { 0 = edgeOf h }) d e q in
+      let t = told (planar (limits .bound) (g .start) && planar (limits .bound) (g .end)) (keySame (keyOf (g .start .x) (g .start .y)) (keyOf (g .end .x) (g .end .y)))
+      (ltb h (2 * s .edges)) (leb (s .nodes + (one (d .«new_start») + one (d .«new_end»))) (limits .nodes)) (ltb (s .edges) (limits .edges)) (record { 0 = edgeOf h }) d e q in
       subst (λ x. Makeable (s .nodes) (s .edges) x (s .degree)) (t .0) (record {
         space = leb-true _ _ (t .1);
         few = ltb-true _ _ (t .2);

@@ -1,15 +1,10 @@
--- The answer of an addition as document 01's number and values, and all that it leaves as one outcome of the rules.
-use Prim.Native.Nat.{ℕ}
+-- The answer of an addition as document 01's number and values, and what its core asks.
 use mathlib.Core.Path.{_≡_}
-use mathlib.Core.Bool.{Bool, true, false}
-use mathlib.Core.List.{List}
-use lib.Ieee.{Float}
+use mathlib.Core.Bool.{true, false}
 use Rattle.geometry.specs.Reply.{Reply, refused, success}
-use Rattle.rules.specs.Adding.{Outcome, Nothing}
 use Rattle.rules.specs.Adding as rules
 use Rattle.rules.specs.Limits.{Limits}
 use Rattle.rules.specs.State.{State, roomy, sound}
-use Rattle.tables.specs.Tables.{stateOf}
 use Rattle.tables.specs.Refusals.{refusalNumber}
 use Rattle.adding.specs.declared.Added.{Added}
 use Rattle.adding.specs.declared.AddReply.{AddReply}
@@ -20,14 +15,6 @@ abbrev pub replyOf : AddReply → Reply rules.Added
 replyOf (New k) = success (record { edge = k .0; new = true })
 replyOf (Old k) = success (record { edge = k .0; new = false })
 replyOf (Refused why) = refused (refusalNumber why)
-
--- the answer with the counts, the stage and the tables
-abbrev pub outcomeOf : Added → List Float → List Float → List Float → List ℕ → List Bool → List Float → List ℕ → List ℕ → List ℕ → List Bool → List ℕ → Outcome rules.Added Nothing
-outcomeOf r nodesX nodesY nodesZ nodesDegree nodesMarked edgesLine edgesLineId dirEdgesSrc dirEdgesDst dirEdgesMarked nodesOutgoing = record {
-  reply = replyOf (r .reply);
-  state = stateOf (r .graph) nodesX nodesY nodesZ nodesDegree nodesMarked edgesLine edgesLineId dirEdgesSrc dirEdgesDst dirEdgesMarked nodesOutgoing;
-  lists = record {};
-}
 
 -- what the core of an addition asks: numbers 6, 7 and 5 were tested
 pub record Ready (l : Limits) (s : State) : Type 0 where

@@ -10,6 +10,7 @@ use Rattle.lists.specs.Lists.{In, upto, firstWhere}
 use Rattle.geometry.specs.declared.Line3D.{Line3D}
 use Rattle.rotation.specs.Rotation.{Key, keySame}
 use Rattle.rules.specs.Keys.{keyOf}
+use Rattle.rules.specs.Limits.{limits}
 use Rattle.rules.specs.State.{starIn, keyIn}
 use Rattle.adding.specs.declared.Ends.{Ends}
 
@@ -38,8 +39,8 @@ pub record Found (g : Line3D) (nodes edges : ℕ) (xs ys : List Float) (source t
 
 -- what the searches ask of the lists: room for the counts, and star entries that are half-edges of the tables and join two of the nodes
 pub record Searchable (nodes edges : ℕ) (xs ys : List Float) (source target star : List ℕ) : Type 0 where
-  pub fewNodes : nodes ≤ 1024
-  pub fewEdges : edges ≤ 1024
+  pub fewNodes : nodes ≤ limits .nodes
+  pub fewEdges : edges ≤ limits .edges
   pub roomX : nodes ≤ length xs
   pub roomY : nodes ≤ length ys
   pub roomStar : 2 * edges ≤ length star

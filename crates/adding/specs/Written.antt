@@ -1,10 +1,10 @@
 -- What is written for a new node and a new edge, and the room that writing asks.
-use Prim.Native.Nat.{ℕ, _+_, _*_, _<_, _≤_}
+use Prim.Native.Nat.{ℕ, _+_, _<_, _≤_}
 use mathlib.Core.Path.{_≡_}
 use mathlib.Core.Bool.{Bool, true, false, cond}
 use mathlib.Core.List.{List}
-use lib.Ieee.{Float}
-use lib.ListN.{length, getD, set}
+use lib.ListN.{getD, set}
+use Rattle.rules.specs.Limits.{limits}
 use Rattle.tables.specs.declared.PlanarGraph.{PlanarGraph}
 use Rattle.adding.specs.declared.Ends.{Ends}
 
@@ -32,32 +32,10 @@ raised degree n = set degree n (getD degree n 0 + 1)
 abbrev pub twoAt : {A : Type 0} → List A → ℕ → A → A → List A
 twoAt table f a b = set (set table f a) (f + 1) b
 
--- the tables of nodes have an entry for node n
-pub record NodeRoom (n : ℕ) (xs ys zs : List Float) (degrees : List ℕ) (marks : List Bool) : Type 0 where
-  pub x : n < length xs
-  pub y : n < length ys
-  pub z : n < length zs
-  pub degree : n < length degrees
-  pub marked : n < length marks
-
--- the tables have entries for edge k from node u to node v, and both degrees can be raised
-pub record EdgeRoom (k u v : ℕ) (degrees : List ℕ) (segments : List Float) (ids sources targets : List ℕ) (marks : List Bool) (stars : List ℕ) : Type 0 where
-  pub few : k < 1024
-  pub from : u < length degrees
-  pub to : v < length degrees
-  pub lowFrom : getD degrees u 0 < 65535
-  pub lowTo : getD (raised degrees u) v 0 < 65535
-  pub segment : 6 * k + 5 < length segments
-  pub id : k < length ids
-  pub source : 2 * k + 1 < length sources
-  pub target : 2 * k + 1 < length targets
-  pub marked : 2 * k + 1 < length marks
-  pub star : 2 * k + 1 < length stars
-
 -- the ends are nodes or the next ones, there is space for them and for an edge, and the degrees of old ends are low
 pub record Makeable (nodes edges : ℕ) (e : Ends) (degrees : List ℕ) : Type 0 where
-  pub space : nodes + (cond (e .«new_start») 1 0 + cond (e .«new_end») 1 0) ≤ 1024
-  pub few : edges < 1024
+  pub space : nodes + (cond (e .«new_start») 1 0 + cond (e .«new_end») 1 0) ≤ limits .nodes
+  pub few : edges < limits .edges
   pub newStart : e .«new_start» ≡ true → e .start .0 ≡ nodes
   pub newEnd : e .«new_end» ≡ true → e .end .0 ≡ nodes + cond (e .«new_start») 1 0
   pub oldStart : e .«new_start» ≡ false → e .start .0 < nodes

@@ -7,6 +7,7 @@ ghost use lib.ListN.{length, getD, take};
 ghost use Rattle.lists.specs.Lists.{In};
 ghost use Rattle.rotation.specs.Rotation.{keySame};
 ghost use Rattle.rules.specs.Keys.{keyOf};
+ghost use Rattle.rules.specs.Limits.{limits};
 ghost use Rattle.rules.specs.State.{keyIn};
 ghost use Rattle.adding.specs.Searches.{findNodeIn, findHalfIn};
 use geometry::Coord3D;
@@ -67,7 +68,7 @@ pub fn find_half(
     u: NodeId,
     v: NodeId,
 ) -> DirEdgeId
-    requires { ⌜ (graph .«edge_count» ≤ 1024) × (2 * graph .«edge_count» ≤ length (now «nodes_outgoing»)) ⌝ }
+    requires { ⌜ (graph .«edge_count» ≤ limits .edges) × (2 * graph .«edge_count» ≤ length (now «nodes_outgoing»)) ⌝ }
     requires { ⌜ ((i : ℕ) → i < 2 * graph .«edge_count» → (getD (now «nodes_outgoing») i 0 < length (now «dir_edges_src»)) × (getD (now «nodes_outgoing») i 0 < length (now «dir_edges_dst»))) ⌝ }
     ensures { λ r. ⌜ r .0 ≡ findHalfIn (graph .«edge_count») (now («dir_edges_src» .entry)) (now («dir_edges_dst» .entry)) (now («nodes_outgoing» .entry)) (u .0) (v .0) ⌝ }
 {
@@ -95,7 +96,7 @@ pub fn find_edge(
     start: NodeId,
     end: NodeId,
 ) -> DirEdgeId
-    requires { ⌜ (graph .«edge_count» ≤ 1024) × (2 * graph .«edge_count» ≤ length (now «nodes_outgoing»)) ⌝ }
+    requires { ⌜ (graph .«edge_count» ≤ limits .edges) × (2 * graph .«edge_count» ≤ length (now «nodes_outgoing»)) ⌝ }
     requires { ⌜ ((i : ℕ) → i < 2 * graph .«edge_count» → (getD (now «nodes_outgoing») i 0 < length (now «dir_edges_src»)) × (getD (now «nodes_outgoing») i 0 < length (now «dir_edges_dst»))) ⌝ }
     requires { ⌜ ((h : ℕ) → In h (take (2 * graph .«edge_count») (now «nodes_outgoing»)) → (getD (now «dir_edges_src») h 0 < graph .«node_count») × (getD (now «dir_edges_dst») h 0 < graph .«node_count»)) ⌝ }
     ensures { λ r. ⌜ r .0 ≡ findHalfIn (graph .«edge_count») (now («dir_edges_src» .entry)) (now («dir_edges_dst» .entry)) (now («nodes_outgoing» .entry)) (start .0) (end .0) ⌝ }

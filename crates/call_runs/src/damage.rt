@@ -1,81 +1,144 @@
-// Setting an entry of a table to a number that the call list gives. Each function but the last
+// Setting an entry of a state table to a number that the call list gives. Each function but the last
 // answers whether the place and the number are the table's.
-use crate::printing::say;
+ghost use mathlib.Core.Path.{_≡_};
 use call_list::Number;
+use call_replies::say;
+use tables::DEGREES;
+use tables::FLOATS;
+use tables::HALF_MARKS;
+use tables::IDS;
+use tables::MARKS;
+use tables::MAX_HALF_EDGES;
+use tables::MAX_NODES;
+use tables::NODES_Y;
+use tables::NODES_Z;
+use tables::NUMBERS;
+use tables::SEGMENTS;
+use tables::STARS;
+use tables::TARGETS;
 
-fn put_float(table: &mut [f64], place: usize, number: Number) -> bool {
+// A table in its slice: where it begins, and how many entries it has.
+struct Region {
+    at: usize,
+    size: usize,
+}
+
+// The place of an entry in a slice of so many entries, or that length where there is none.
+fn place_in(region: Region, place: usize, full: usize) -> usize {
+    if place < region.size {
+        if region.at < full {
+            if place < full - region.at {
+                return region.at + place;
+            }
+        }
+    }
+    full
+}
+
+fn put_float(floats: &mut [f64; FLOATS], region: Region, place: usize, number: Number) -> bool {
     let real = call_list::real_of(number);
-    if place < table.len() {
+    let i = place_in(region, place, FLOATS);
+    if i < FLOATS {
         if real.clear {
-            table[place] = real.value;
+            floats[i] = real.value;
             return true;
         }
     }
     false
 }
 
-fn put_number(table: &mut [u16], place: usize, number: Number) -> bool {
+fn put_number(numbers: &mut [u16; NUMBERS], region: Region, place: usize, number: Number) -> bool {
     let count = call_list::count_of(number, 0x1_0000);
-    if place < table.len() {
+    let i = place_in(region, place, NUMBERS);
+    if i < NUMBERS {
         if count.clear {
-            table[place] = count.value as u16;
+            numbers[i] = count.value as u16;
             return true;
         }
     }
     false
 }
 
-fn put_id(table: &mut [u32], place: usize, number: Number) -> bool {
-    let count = call_list::count_of(number, 0x1_0000_0000);
-    if place < table.len() {
+fn put_star(stars: &mut [u16; STARS], region: Region, place: usize, number: Number) -> bool {
+    let count = call_list::count_of(number, 0x1_0000);
+    let i = place_in(region, place, STARS);
+    if i < STARS {
         if count.clear {
-            table[place] = count.value as u32;
+            stars[i] = count.value as u16;
             return true;
         }
     }
     false
 }
 
-fn put_mark(table: &mut [bool], place: usize, number: Number) -> bool {
+fn put_mark(marks: &mut [bool; MARKS], region: Region, place: usize, number: Number) -> bool {
     let count = call_list::count_of(number, 2);
-    if place < table.len() {
+    let i = place_in(region, place, MARKS);
+    if i < MARKS {
         if count.clear {
-            table[place] = count.value == 1;
+            marks[i] = count.value == 1;
             return true;
         }
     }
     false
 }
 
-// Where they are not, the line is no call.
+fn put_id(ids: &mut [u32; IDS], place: usize, number: Number) -> bool {
+    let count = call_list::count_of(number, 0x1_0000_0000);
+    if place < IDS {
+        if count.clear {
+            ids[place] = count.value as u32;
+            return true;
+        }
+    }
+    false
+}
+
+fn of_nodes(at: usize) -> Region {
+    Region {
+        at,
+        size: MAX_NODES,
+    }
+}
+
+fn of_halves(at: usize) -> Region {
+    Region {
+        at,
+        size: MAX_HALF_EDGES,
+    }
+}
+
+fn of_segments() -> Region {
+    Region {
+        at: SEGMENTS,
+        size: FLOATS - SEGMENTS,
+    }
+}
+
+// The tables in the order of the rules' state. Where the place or the number is none of the table's, the
+// line is no call.
 pub fn put_entry(
     table: usize,
     place: usize,
     number: Number,
-    nodes_x: &mut [f64; 1024],
-    nodes_y: &mut [f64; 1024],
-    nodes_z: &mut [f64; 1024],
-    nodes_degree: &mut [u16; 1024],
-    nodes_marked: &mut [bool; 1024],
-    edges_line: &mut [f64; 6144],
-    edges_line_id: &mut [u32; 1024],
-    dir_edges_src: &mut [u16; 2048],
-    dir_edges_dst: &mut [u16; 2048],
-    dir_edges_marked: &mut [bool; 2048],
-    nodes_outgoing: &mut [u16; 2048],
+    floats: &mut [f64; FLOATS],
+    numbers: &mut [u16; NUMBERS],
+    stars: &mut [u16; STARS],
+    marks: &mut [bool; MARKS],
+    ids: &mut [u32; IDS],
 ) {
     let is_put = match table {
-        0 => put_float(nodes_x, place, number),
-        1 => put_float(nodes_y, place, number),
-        2 => put_float(nodes_z, place, number),
-        3 => put_number(nodes_degree, place, number),
-        4 => put_mark(nodes_marked, place, number),
-        5 => put_float(edges_line, place, number),
-        6 => put_id(edges_line_id, place, number),
-        7 => put_number(dir_edges_src, place, number),
-        8 => put_number(dir_edges_dst, place, number),
-        9 => put_mark(dir_edges_marked, place, number),
-        10 => put_number(nodes_outgoing, place, number),
+        0 => put_float(floats, of_nodes(0), place, number),
+        1 => put_float(floats, of_nodes(NODES_Y), place, number),
+        2 => put_float(floats, of_nodes(NODES_Z), place, number),
+        3 => put_star(stars, of_nodes(DEGREES), place, number),
+        4 => put_mark(marks, of_nodes(0), place, number),
+        5 => put_float(floats, of_segments(), place, number),
+        6 => put_id(ids, place, number),
+        7 => put_number(numbers, of_halves(0), place, number),
+        8 => put_number(numbers, of_halves(TARGETS), place, number),
+        9 => put_mark(marks, of_halves(HALF_MARKS), place, number),
+        10 => put_star(stars, of_halves(0), place, number),
         _ => false,
     };
     if !is_put {

@@ -7,73 +7,46 @@ use crate::lending::lend_floats;
 use crate::lending::lend_ids;
 use crate::lending::lend_marks;
 use crate::lending::lend_numbers;
+use crate::lending::lend_stars;
 use crate::lending::share_floats;
 use crate::lending::share_ids;
 use crate::lending::share_marks;
 use crate::lending::share_numbers;
+use crate::lending::share_stars;
 use call_list::GraphCall;
+use call_replies::Outcome;
+use call_replies::Reply;
 use planar_graph::AddReply;
-use planar_graph::Census;
 use planar_graph::Created;
 use planar_graph::CutReply;
 use planar_graph::Line3D;
-use planar_graph::PlanarGraph;
 use planar_graph::PruneReply;
 use planar_graph::Refusal;
 use planar_graph::RingReply;
 use planar_graph::StepReply;
 
-pub enum Reply {
-    Created,
-    New(u16),
-    Old(u16),
-    Sorted,
-    WasReset,
-    Dangles(u16),
-    Cuts(u16, Census),
-    Rings(u16, Census, u16),
-    Refused(u64),
-}
-
-pub struct Outcome {
-    pub graph: PlanarGraph,
-    pub reply: Reply,
-}
-
 // A refusal's number.
 fn refused(why: Refusal) -> Reply {
-    Reply::Refused(intake::refusal_number(why))
+    Reply::Refused(tables::refusal_number(why) as u64)
 }
 
 // A refusal leaves the graph that was there.
 fn create(
     settings: Settings,
-    nodes_x: &[f64],
-    nodes_y: &[f64],
-    nodes_z: &[f64],
-    nodes_degree: &[u16],
-    nodes_marked: &[bool],
-    edges_line: &[f64],
-    edges_line_id: &[u32],
-    dir_edges_src: &[u16],
-    dir_edges_dst: &[u16],
-    dir_edges_marked: &[bool],
-    nodes_outgoing: &[u16],
+    floats: &[f64],
+    numbers: &[u16],
+    stars: &[u16],
+    marks: &[bool],
+    ids: &[u32],
 ) -> Outcome {
     let graph = settings.graph;
     let short = settings.short;
     let done = planar_graph::create(
-        share_floats(nodes_x, short, 0),
-        share_floats(nodes_y, short, 1),
-        share_floats(nodes_z, short, 2),
-        share_numbers(nodes_degree, short, 3),
-        share_marks(nodes_marked, short, 4),
-        share_floats(edges_line, short, 5),
-        share_ids(edges_line_id, short, 6),
-        share_numbers(dir_edges_src, short, 7),
-        share_numbers(dir_edges_dst, short, 8),
-        share_marks(dir_edges_marked, short, 9),
-        share_numbers(nodes_outgoing, short, 10),
+        share_floats(floats, short),
+        share_numbers(numbers, short),
+        share_stars(stars, short),
+        share_marks(marks, short),
+        share_ids(ids, short),
     );
     match done {
         Created::Graph(made) => Outcome {
@@ -90,34 +63,22 @@ fn create(
 fn add(
     settings: Settings,
     line: Line3D,
-    nodes_x: &mut [f64],
-    nodes_y: &mut [f64],
-    nodes_z: &mut [f64],
-    nodes_degree: &mut [u16],
-    nodes_marked: &mut [bool],
-    edges_line: &mut [f64],
-    edges_line_id: &mut [u32],
-    dir_edges_src: &mut [u16],
-    dir_edges_dst: &mut [u16],
-    dir_edges_marked: &mut [bool],
-    nodes_outgoing: &mut [u16],
+    floats: &mut [f64],
+    numbers: &mut [u16],
+    stars: &mut [u16],
+    marks: &mut [bool],
+    ids: &mut [u32],
 ) -> Outcome {
     let graph = settings.graph;
     let short = settings.short;
     let done = planar_graph::add_line(
         graph,
         line,
-        lend_floats(nodes_x, short, 0),
-        lend_floats(nodes_y, short, 1),
-        lend_floats(nodes_z, short, 2),
-        lend_numbers(nodes_degree, short, 3),
-        lend_marks(nodes_marked, short, 4),
-        lend_floats(edges_line, short, 5),
-        lend_ids(edges_line_id, short, 6),
-        lend_numbers(dir_edges_src, short, 7),
-        lend_numbers(dir_edges_dst, short, 8),
-        lend_marks(dir_edges_marked, short, 9),
-        lend_numbers(nodes_outgoing, short, 10),
+        lend_floats(floats, short),
+        lend_numbers(numbers, short),
+        lend_stars(stars, short),
+        lend_marks(marks, short),
+        lend_ids(ids, short),
     );
     let after = done.graph;
     let answer = done.reply;
@@ -139,33 +100,21 @@ fn add(
 
 fn sort(
     settings: Settings,
-    nodes_x: &[f64],
-    nodes_y: &[f64],
-    nodes_z: &[f64],
-    nodes_degree: &[u16],
-    nodes_marked: &[bool],
-    edges_line: &[f64],
-    edges_line_id: &[u32],
-    dir_edges_src: &[u16],
-    dir_edges_dst: &[u16],
-    dir_edges_marked: &[bool],
-    nodes_outgoing: &mut [u16],
+    floats: &[f64],
+    numbers: &[u16],
+    stars: &mut [u16],
+    marks: &[bool],
+    ids: &[u32],
 ) -> Outcome {
     let graph = settings.graph;
     let short = settings.short;
     let done = planar_graph::sort_edges(
         graph,
-        share_floats(nodes_x, short, 0),
-        share_floats(nodes_y, short, 1),
-        share_floats(nodes_z, short, 2),
-        share_numbers(nodes_degree, short, 3),
-        share_marks(nodes_marked, short, 4),
-        share_floats(edges_line, short, 5),
-        share_ids(edges_line_id, short, 6),
-        share_numbers(dir_edges_src, short, 7),
-        share_numbers(dir_edges_dst, short, 8),
-        share_marks(dir_edges_marked, short, 9),
-        lend_numbers(nodes_outgoing, short, 10),
+        share_floats(floats, short),
+        share_numbers(numbers, short),
+        lend_stars(stars, short),
+        share_marks(marks, short),
+        share_ids(ids, short),
     );
     let after = done.graph;
     let answer = done.reply;
@@ -183,17 +132,11 @@ fn sort(
 
 fn prune(
     settings: Settings,
-    nodes_x: &[f64],
-    nodes_y: &[f64],
-    nodes_z: &[f64],
-    nodes_degree: &mut [u16],
-    nodes_marked: &mut [bool],
-    edges_line: &[f64],
-    edges_line_id: &[u32],
-    dir_edges_src: &[u16],
-    dir_edges_dst: &[u16],
-    dir_edges_marked: &mut [bool],
-    nodes_outgoing: &[u16],
+    floats: &[f64],
+    numbers: &[u16],
+    stars: &mut [u16],
+    marks: &mut [bool],
+    ids: &[u32],
     out: &mut [u16],
 ) -> Outcome {
     let graph = settings.graph;
@@ -201,17 +144,11 @@ fn prune(
     let length = settings.length;
     let done = planar_graph::prune_dangles(
         graph,
-        share_floats(nodes_x, short, 0),
-        share_floats(nodes_y, short, 1),
-        share_floats(nodes_z, short, 2),
-        lend_numbers(nodes_degree, short, 3),
-        lend_marks(nodes_marked, short, 4),
-        share_floats(edges_line, short, 5),
-        share_ids(edges_line_id, short, 6),
-        share_numbers(dir_edges_src, short, 7),
-        share_numbers(dir_edges_dst, short, 8),
-        lend_marks(dir_edges_marked, short, 9),
-        share_numbers(nodes_outgoing, short, 10),
+        share_floats(floats, short),
+        share_numbers(numbers, short),
+        lend_stars(stars, short),
+        lend_marks(marks, short),
+        share_ids(ids, short),
         first_numbers(out, length),
     );
     let after = done.graph;
@@ -230,17 +167,11 @@ fn prune(
 
 fn cut(
     settings: Settings,
-    nodes_x: &[f64],
-    nodes_y: &[f64],
-    nodes_z: &[f64],
-    nodes_degree: &[u16],
-    nodes_marked: &[bool],
-    edges_line: &[f64],
-    edges_line_id: &[u32],
-    dir_edges_src: &[u16],
-    dir_edges_dst: &[u16],
-    dir_edges_marked: &mut [bool],
-    nodes_outgoing: &[u16],
+    floats: &[f64],
+    numbers: &[u16],
+    stars: &[u16],
+    marks: &mut [bool],
+    ids: &[u32],
     out: &mut [u16],
 ) -> Outcome {
     let graph = settings.graph;
@@ -248,17 +179,11 @@ fn cut(
     let length = settings.length;
     let done = planar_graph::delete_cut_edges(
         graph,
-        share_floats(nodes_x, short, 0),
-        share_floats(nodes_y, short, 1),
-        share_floats(nodes_z, short, 2),
-        share_numbers(nodes_degree, short, 3),
-        share_marks(nodes_marked, short, 4),
-        share_floats(edges_line, short, 5),
-        share_ids(edges_line_id, short, 6),
-        share_numbers(dir_edges_src, short, 7),
-        share_numbers(dir_edges_dst, short, 8),
-        lend_marks(dir_edges_marked, short, 9),
-        share_numbers(nodes_outgoing, short, 10),
+        share_floats(floats, short),
+        share_numbers(numbers, short),
+        share_stars(stars, short),
+        lend_marks(marks, short),
+        share_ids(ids, short),
         first_numbers(out, length),
     );
     let after = done.graph;
@@ -277,17 +202,11 @@ fn cut(
 
 fn extract(
     settings: Settings,
-    nodes_x: &[f64],
-    nodes_y: &[f64],
-    nodes_z: &[f64],
-    nodes_degree: &[u16],
-    nodes_marked: &[bool],
-    edges_line: &[f64],
-    edges_line_id: &[u32],
-    dir_edges_src: &[u16],
-    dir_edges_dst: &[u16],
-    dir_edges_marked: &[bool],
-    nodes_outgoing: &[u16],
+    floats: &[f64],
+    numbers: &[u16],
+    stars: &[u16],
+    marks: &[bool],
+    ids: &[u32],
     half_edges: &mut [u16],
     ring_first: &mut [u16],
     ring_length: &mut [u16],
@@ -300,17 +219,11 @@ fn extract(
     let length = settings.length;
     let done = planar_graph::extract_rings(
         graph,
-        share_floats(nodes_x, short, 0),
-        share_floats(nodes_y, short, 1),
-        share_floats(nodes_z, short, 2),
-        share_numbers(nodes_degree, short, 3),
-        share_marks(nodes_marked, short, 4),
-        share_floats(edges_line, short, 5),
-        share_ids(edges_line_id, short, 6),
-        share_numbers(dir_edges_src, short, 7),
-        share_numbers(dir_edges_dst, short, 8),
-        share_marks(dir_edges_marked, short, 9),
-        share_numbers(nodes_outgoing, short, 10),
+        share_floats(floats, short),
+        share_numbers(numbers, short),
+        share_stars(stars, short),
+        share_marks(marks, short),
+        share_ids(ids, short),
         first_numbers(half_edges, length),
         first_numbers(ring_first, length),
         first_numbers(ring_length, length),
@@ -334,33 +247,21 @@ fn extract(
 
 fn reset(
     settings: Settings,
-    nodes_x: &[f64],
-    nodes_y: &[f64],
-    nodes_z: &[f64],
-    nodes_degree: &mut [u16],
-    nodes_marked: &mut [bool],
-    edges_line: &[f64],
-    edges_line_id: &[u32],
-    dir_edges_src: &[u16],
-    dir_edges_dst: &[u16],
-    dir_edges_marked: &mut [bool],
-    nodes_outgoing: &[u16],
+    floats: &[f64],
+    numbers: &[u16],
+    stars: &mut [u16],
+    marks: &mut [bool],
+    ids: &[u32],
 ) -> Outcome {
     let graph = settings.graph;
     let short = settings.short;
     let done = planar_graph::reset(
         graph,
-        share_floats(nodes_x, short, 0),
-        share_floats(nodes_y, short, 1),
-        share_floats(nodes_z, short, 2),
-        lend_numbers(nodes_degree, short, 3),
-        lend_marks(nodes_marked, short, 4),
-        share_floats(edges_line, short, 5),
-        share_ids(edges_line_id, short, 6),
-        share_numbers(dir_edges_src, short, 7),
-        share_numbers(dir_edges_dst, short, 8),
-        lend_marks(dir_edges_marked, short, 9),
-        share_numbers(nodes_outgoing, short, 10),
+        share_floats(floats, short),
+        share_numbers(numbers, short),
+        lend_stars(stars, short),
+        lend_marks(marks, short),
+        share_ids(ids, short),
     );
     let after = done.graph;
     let answer = done.reply;
@@ -376,115 +277,36 @@ fn reset(
     }
 }
 
-// The entry that a call names. Pruning and cutting write the first of the lists.
+// The entry that a line of the call list names; pruning and cutting list edges where the half-edges
+// of rings go.
 pub fn enter(
     call: GraphCall,
     settings: Settings,
-    nodes_x: &mut [f64; 1024],
-    nodes_y: &mut [f64; 1024],
-    nodes_z: &mut [f64; 1024],
-    nodes_degree: &mut [u16; 1024],
-    nodes_marked: &mut [bool; 1024],
-    edges_line: &mut [f64; 6144],
-    edges_line_id: &mut [u32; 1024],
-    dir_edges_src: &mut [u16; 2048],
-    dir_edges_dst: &mut [u16; 2048],
-    dir_edges_marked: &mut [bool; 2048],
-    nodes_outgoing: &mut [u16; 2048],
-    half_edges: &mut [u16; 2048],
-    ring_first: &mut [u16; 2048],
-    ring_length: &mut [u16; 2048],
-    ring_face: &mut [u16; 2048],
-    ring_side: &mut [u8; 2048],
-    ring_area: &mut [f64; 2048],
+    floats: &mut [f64],
+    numbers: &mut [u16],
+    stars: &mut [u16],
+    marks: &mut [bool],
+    ids: &mut [u32],
+    half_edges: &mut [u16],
+    ring_first: &mut [u16],
+    ring_length: &mut [u16],
+    ring_face: &mut [u16],
+    ring_side: &mut [u8],
+    ring_area: &mut [f64],
 ) -> Outcome {
     match call {
-        GraphCall::Create => create(
-            settings,
-            nodes_x,
-            nodes_y,
-            nodes_z,
-            nodes_degree,
-            nodes_marked,
-            edges_line,
-            edges_line_id,
-            dir_edges_src,
-            dir_edges_dst,
-            dir_edges_marked,
-            nodes_outgoing,
-        ),
-        GraphCall::Add(line) => add(
-            settings,
-            line,
-            nodes_x,
-            nodes_y,
-            nodes_z,
-            nodes_degree,
-            nodes_marked,
-            edges_line,
-            edges_line_id,
-            dir_edges_src,
-            dir_edges_dst,
-            dir_edges_marked,
-            nodes_outgoing,
-        ),
-        GraphCall::Sort => sort(
-            settings,
-            nodes_x,
-            nodes_y,
-            nodes_z,
-            nodes_degree,
-            nodes_marked,
-            edges_line,
-            edges_line_id,
-            dir_edges_src,
-            dir_edges_dst,
-            dir_edges_marked,
-            nodes_outgoing,
-        ),
-        GraphCall::Prune => prune(
-            settings,
-            nodes_x,
-            nodes_y,
-            nodes_z,
-            nodes_degree,
-            nodes_marked,
-            edges_line,
-            edges_line_id,
-            dir_edges_src,
-            dir_edges_dst,
-            dir_edges_marked,
-            nodes_outgoing,
-            half_edges,
-        ),
-        GraphCall::Cut => cut(
-            settings,
-            nodes_x,
-            nodes_y,
-            nodes_z,
-            nodes_degree,
-            nodes_marked,
-            edges_line,
-            edges_line_id,
-            dir_edges_src,
-            dir_edges_dst,
-            dir_edges_marked,
-            nodes_outgoing,
-            half_edges,
-        ),
+        GraphCall::Create => create(settings, floats, numbers, stars, marks, ids),
+        GraphCall::Add(line) => add(settings, line, floats, numbers, stars, marks, ids),
+        GraphCall::Sort => sort(settings, floats, numbers, stars, marks, ids),
+        GraphCall::Prune => prune(settings, floats, numbers, stars, marks, ids, half_edges),
+        GraphCall::Cut => cut(settings, floats, numbers, stars, marks, ids, half_edges),
         GraphCall::Rings => extract(
             settings,
-            nodes_x,
-            nodes_y,
-            nodes_z,
-            nodes_degree,
-            nodes_marked,
-            edges_line,
-            edges_line_id,
-            dir_edges_src,
-            dir_edges_dst,
-            dir_edges_marked,
-            nodes_outgoing,
+            floats,
+            numbers,
+            stars,
+            marks,
+            ids,
             half_edges,
             ring_first,
             ring_length,
@@ -492,19 +314,6 @@ pub fn enter(
             ring_side,
             ring_area,
         ),
-        GraphCall::Reset => reset(
-            settings,
-            nodes_x,
-            nodes_y,
-            nodes_z,
-            nodes_degree,
-            nodes_marked,
-            edges_line,
-            edges_line_id,
-            dir_edges_src,
-            dir_edges_dst,
-            dir_edges_marked,
-            nodes_outgoing,
-        ),
+        GraphCall::Reset => reset(settings, floats, numbers, stars, marks, ids),
     }
 }

@@ -1,22 +1,45 @@
-// Lending: a table whole or one entry short, a list as long as it is set to be.
-ghost use mathlib.Core.Path.{_≡_};
+// Lending: a slice whole or one entry short, a list as long as it is set to be.
 ghost use Prim.Native.Nat.{_≤_};
-use crate::reads::least;
-use planar_graph::PlanarGraph;
+use tables::PlanarGraph;
 
-// What the call list sets: the small state, the table that the next call gets one entry short (11
-// for none), and how long the lists are lent.
+// What the call list sets: the small state, the slice that the next call gets one entry short, and
+// how long the lists are lent.
 pub struct Settings {
     pub graph: PlanarGraph,
     pub short: usize,
     pub length: usize,
 }
 
-// How much of a table is lent.
-fn lent(short: usize, table: usize, full: usize) -> usize
+// The slices, in the order of the entries' parameters, and a number for none of them.
+pub const FLOATS_SLICE: usize = 0;
+
+pub const NUMBERS_SLICE: usize = 1;
+
+pub const STARS_SLICE: usize = 2;
+
+pub const MARKS_SLICE: usize = 3;
+
+pub const IDS_SLICE: usize = 4;
+
+pub const NO_SLICE: usize = 5;
+
+// The slice that holds a state table. A call list names the tables in the order of the rules' state.
+pub fn slice_of(table: usize) -> usize {
+    match table {
+        0 | 1 | 2 | 5 => FLOATS_SLICE,
+        7 | 8 => NUMBERS_SLICE,
+        3 | 10 => STARS_SLICE,
+        4 | 9 => MARKS_SLICE,
+        6 => IDS_SLICE,
+        _ => NO_SLICE,
+    }
+}
+
+// How much of a slice is lent.
+fn lent(short: usize, slice: usize, full: usize) -> usize
     ensures { λ r. ⌜ r ≤ full ⌝ }
 {
-    if short == table {
+    if short == slice {
         if 0 < full {
             return full - 1;
         }
@@ -24,60 +47,76 @@ fn lent(short: usize, table: usize, full: usize) -> usize
     full
 }
 
-// A table that the call may write.
-pub fn lend_floats(table: &mut [f64], short: usize, number: usize) -> &mut [f64] {
-    let n = lent(short, number, table.len());
-    &mut table[0..n]
+// A slice that the call may write.
+pub fn lend_floats(floats: &mut [f64], short: usize) -> &mut [f64] {
+    let n = lent(short, FLOATS_SLICE, floats.len());
+    &mut floats[0..n]
 }
 
-pub fn lend_numbers(table: &mut [u16], short: usize, number: usize) -> &mut [u16] {
-    let n = lent(short, number, table.len());
-    &mut table[0..n]
+pub fn lend_numbers(numbers: &mut [u16], short: usize) -> &mut [u16] {
+    let n = lent(short, NUMBERS_SLICE, numbers.len());
+    &mut numbers[0..n]
 }
 
-pub fn lend_marks(table: &mut [bool], short: usize, number: usize) -> &mut [bool] {
-    let n = lent(short, number, table.len());
-    &mut table[0..n]
+pub fn lend_stars(stars: &mut [u16], short: usize) -> &mut [u16] {
+    let n = lent(short, STARS_SLICE, stars.len());
+    &mut stars[0..n]
 }
 
-pub fn lend_ids(table: &mut [u32], short: usize, number: usize) -> &mut [u32] {
-    let n = lent(short, number, table.len());
-    &mut table[0..n]
+pub fn lend_marks(marks: &mut [bool], short: usize) -> &mut [bool] {
+    let n = lent(short, MARKS_SLICE, marks.len());
+    &mut marks[0..n]
 }
 
-// A table that the call only reads.
-pub fn share_floats(table: &[f64], short: usize, number: usize) -> &[f64] {
-    let n = lent(short, number, table.len());
-    &table[0..n]
+pub fn lend_ids(ids: &mut [u32], short: usize) -> &mut [u32] {
+    let n = lent(short, IDS_SLICE, ids.len());
+    &mut ids[0..n]
 }
 
-pub fn share_numbers(table: &[u16], short: usize, number: usize) -> &[u16] {
-    let n = lent(short, number, table.len());
-    &table[0..n]
+// A slice that the call only reads.
+pub fn share_floats(floats: &[f64], short: usize) -> &[f64] {
+    let n = lent(short, FLOATS_SLICE, floats.len());
+    &floats[0..n]
 }
 
-pub fn share_marks(table: &[bool], short: usize, number: usize) -> &[bool] {
-    let n = lent(short, number, table.len());
-    &table[0..n]
+pub fn share_numbers(numbers: &[u16], short: usize) -> &[u16] {
+    let n = lent(short, NUMBERS_SLICE, numbers.len());
+    &numbers[0..n]
 }
 
-pub fn share_ids(table: &[u32], short: usize, number: usize) -> &[u32] {
-    let n = lent(short, number, table.len());
-    &table[0..n]
+pub fn share_stars(stars: &[u16], short: usize) -> &[u16] {
+    let n = lent(short, STARS_SLICE, stars.len());
+    &stars[0..n]
+}
+
+pub fn share_marks(marks: &[bool], short: usize) -> &[bool] {
+    let n = lent(short, MARKS_SLICE, marks.len());
+    &marks[0..n]
+}
+
+pub fn share_ids(ids: &[u32], short: usize) -> &[u32] {
+    let n = lent(short, IDS_SLICE, ids.len());
+    &ids[0..n]
+}
+
+fn lesser(a: usize, b: usize) -> usize
+    ensures { λ r. ⌜ (r ≤ a) × (r ≤ b) ⌝ }
+{
+    if a < b { a } else { b }
 }
 
 // The first entries of a list.
 pub fn first_numbers(list: &mut [u16], length: usize) -> &mut [u16] {
-    let n = least(length, list.len());
+    let n = lesser(length, list.len());
     &mut list[0..n]
 }
 
 pub fn first_sides(list: &mut [u8], length: usize) -> &mut [u8] {
-    let n = least(length, list.len());
+    let n = lesser(length, list.len());
     &mut list[0..n]
 }
 
 pub fn first_floats(list: &mut [f64], length: usize) -> &mut [f64] {
-    let n = least(length, list.len());
+    let n = lesser(length, list.len());
     &mut list[0..n]
 }

@@ -1,26 +1,30 @@
-// Runs a call list through the public entries of the graph and prints every reply. After each call every entry that it has to leave alone is compared with what stood there
-// before.
+// Runs a call list through the public entries of the graph and prints every reply. After each call
+// every entry that it has to leave alone is compared with what stood there before.
 ghost use Prim.Native.Nat.{_≤_};
 ghost use lib.ListN.{length};
 
 mod damage;
 mod entering;
-mod image;
 mod lending;
-mod printing;
-mod reads;
-mod replies;
-mod show;
-mod stays;
 mod step;
 
-use crate::image::IMAGE;
+use crate::lending::NO_SLICE;
 use crate::lending::Settings;
-use crate::printing::say;
 use crate::step::step;
+use call_image::IMAGE;
 use call_list::Call;
+use call_replies::say;
 use libc::STDIN_FILENO;
-use planar_graph::PlanarGraph;
+use tables::FLOATS;
+use tables::IDS;
+use tables::MARKS;
+use tables::MAX_HALF_EDGES;
+use tables::NUMBERS;
+use tables::PlanarGraph;
+use tables::STARS;
+
+// A longer text is not run.
+const TEXT: usize = 262144;
 
 // A comment that starts with `#` is printed as it is.
 fn say_comment(text: &[u8], call: Call, at: usize, end: usize)
@@ -32,26 +36,20 @@ fn say_comment(text: &[u8], call: Call, at: usize, end: usize)
     }
 }
 
-// The tables and lists hold something from the start, so that a call that takes them for empty, or
+// The slices and lists hold something from the start, so that a call that takes them for empty, or
 // clears more than it may, is seen.
 fn run(text: &[u8]) {
-    let mut nodes_x = [7.0; 1024];
-    let mut nodes_y = [7.0; 1024];
-    let mut nodes_z = [7.0; 1024];
-    let mut nodes_degree = [7u16; 1024];
-    let mut nodes_marked = [true; 1024];
-    let mut edges_line = [7.0; 6144];
-    let mut edges_line_id = [7u32; 1024];
-    let mut dir_edges_src = [7u16; 2048];
-    let mut dir_edges_dst = [7u16; 2048];
-    let mut dir_edges_marked = [true; 2048];
-    let mut nodes_outgoing = [7u16; 2048];
-    let mut half_edges = [7u16; 2048];
-    let mut ring_first = [7u16; 2048];
-    let mut ring_length = [7u16; 2048];
-    let mut ring_face = [7u16; 2048];
-    let mut ring_side = [7u8; 2048];
-    let mut ring_area = [7.0; 2048];
+    let mut floats = [7.0; FLOATS];
+    let mut numbers = [7u16; NUMBERS];
+    let mut stars = [7u16; STARS];
+    let mut marks = [true; MARKS];
+    let mut ids = [7u32; IDS];
+    let mut half_edges = [7u16; MAX_HALF_EDGES];
+    let mut ring_first = [7u16; MAX_HALF_EDGES];
+    let mut ring_length = [7u16; MAX_HALF_EDGES];
+    let mut ring_face = [7u16; MAX_HALF_EDGES];
+    let mut ring_side = [7u8; MAX_HALF_EDGES];
+    let mut ring_area = [7.0; MAX_HALF_EDGES];
     let mut before = [0u64; IMAGE];
     let mut after = [0u64; IMAGE];
     let mut settings = Settings {
@@ -60,8 +58,8 @@ fn run(text: &[u8]) {
             edge_count: 0,
             stage: 0,
         },
-        short: 11,
-        length: 2048,
+        short: NO_SLICE,
+        length: MAX_HALF_EDGES,
     };
     let mut at = 0;
     while at < text.len() {
@@ -71,17 +69,11 @@ fn run(text: &[u8]) {
         settings = step(
             call,
             settings,
-            &mut nodes_x,
-            &mut nodes_y,
-            &mut nodes_z,
-            &mut nodes_degree,
-            &mut nodes_marked,
-            &mut edges_line,
-            &mut edges_line_id,
-            &mut dir_edges_src,
-            &mut dir_edges_dst,
-            &mut dir_edges_marked,
-            &mut nodes_outgoing,
+            &mut floats,
+            &mut numbers,
+            &mut stars,
+            &mut marks,
+            &mut ids,
             &mut half_edges,
             &mut ring_first,
             &mut ring_length,
@@ -98,9 +90,9 @@ fn run(text: &[u8]) {
 // Runs the call list on standard input. A text that fills the buffer may go on behind it, so it is not
 // run.
 pub fn run_input() {
-    let mut buffer = [0u8; 262144];
+    let mut buffer = [0u8; TEXT];
     let count = io::read_full(STDIN_FILENO, &mut buffer);
-    if count == 262144 {
+    if count == TEXT {
         say(b"too long\n");
         return;
     }

@@ -1,58 +1,47 @@
 // One line of the call list.
 use crate::damage::put_entry;
 use crate::entering::enter;
-use crate::image::IMAGE;
-use crate::image::copy_lists;
-use crate::image::copy_tables;
+use crate::lending::NO_SLICE;
 use crate::lending::Settings;
-use crate::printing::say;
-use crate::replies::end_line;
-use crate::replies::say_reply;
-use crate::replies::say_rings;
-use crate::show::show_state;
-use crate::stays::is_kept;
+use crate::lending::slice_of;
+use call_image::IMAGE;
+use call_image::copy_lists;
+use call_image::copy_slices;
+use call_image::is_kept;
 use call_list::Call;
 use call_list::GraphCall;
-use planar_graph::PlanarGraph;
+use call_replies::end_line;
+use call_replies::say;
+use call_replies::say_reply;
+use call_replies::say_rings;
+use call_replies::show_state;
+use tables::FLOATS;
+use tables::IDS;
+use tables::MARKS;
+use tables::MAX_HALF_EDGES;
+use tables::NUMBERS;
+use tables::PlanarGraph;
+use tables::STARS;
 
 // Makes the call, compares everything with what stood there before, and prints the reply.
 fn perform(
     call: GraphCall,
     settings: Settings,
-    nodes_x: &mut [f64; 1024],
-    nodes_y: &mut [f64; 1024],
-    nodes_z: &mut [f64; 1024],
-    nodes_degree: &mut [u16; 1024],
-    nodes_marked: &mut [bool; 1024],
-    edges_line: &mut [f64; 6144],
-    edges_line_id: &mut [u32; 1024],
-    dir_edges_src: &mut [u16; 2048],
-    dir_edges_dst: &mut [u16; 2048],
-    dir_edges_marked: &mut [bool; 2048],
-    nodes_outgoing: &mut [u16; 2048],
-    half_edges: &mut [u16; 2048],
-    ring_first: &mut [u16; 2048],
-    ring_length: &mut [u16; 2048],
-    ring_face: &mut [u16; 2048],
-    ring_side: &mut [u8; 2048],
-    ring_area: &mut [f64; 2048],
+    floats: &mut [f64; FLOATS],
+    numbers: &mut [u16; NUMBERS],
+    stars: &mut [u16; STARS],
+    marks: &mut [bool; MARKS],
+    ids: &mut [u32; IDS],
+    half_edges: &mut [u16; MAX_HALF_EDGES],
+    ring_first: &mut [u16; MAX_HALF_EDGES],
+    ring_length: &mut [u16; MAX_HALF_EDGES],
+    ring_face: &mut [u16; MAX_HALF_EDGES],
+    ring_side: &mut [u8; MAX_HALF_EDGES],
+    ring_area: &mut [f64; MAX_HALF_EDGES],
     before: &mut [u64; IMAGE],
     after: &mut [u64; IMAGE],
 ) -> PlanarGraph {
-    copy_tables(
-        nodes_x,
-        nodes_y,
-        nodes_z,
-        nodes_degree,
-        nodes_marked,
-        edges_line,
-        edges_line_id,
-        dir_edges_src,
-        dir_edges_dst,
-        dir_edges_marked,
-        nodes_outgoing,
-        before,
-    );
+    copy_slices(floats, numbers, stars, marks, ids, before);
     copy_lists(
         half_edges,
         ring_first,
@@ -65,17 +54,11 @@ fn perform(
     let done = enter(
         call,
         settings,
-        nodes_x,
-        nodes_y,
-        nodes_z,
-        nodes_degree,
-        nodes_marked,
-        edges_line,
-        edges_line_id,
-        dir_edges_src,
-        dir_edges_dst,
-        dir_edges_marked,
-        nodes_outgoing,
+        floats,
+        numbers,
+        stars,
+        marks,
+        ids,
         half_edges,
         ring_first,
         ring_length,
@@ -83,20 +66,7 @@ fn perform(
         ring_side,
         ring_area,
     );
-    copy_tables(
-        nodes_x,
-        nodes_y,
-        nodes_z,
-        nodes_degree,
-        nodes_marked,
-        edges_line,
-        edges_line_id,
-        dir_edges_src,
-        dir_edges_dst,
-        dir_edges_marked,
-        nodes_outgoing,
-        after,
-    );
+    copy_slices(floats, numbers, stars, marks, ids, after);
     copy_lists(
         half_edges,
         ring_first,
@@ -123,7 +93,7 @@ fn perform(
     new
 }
 
-// A short table is for one call only.
+// A short slice is for one call only.
 fn with_graph(settings: Settings, graph: PlanarGraph, short: usize) -> Settings {
     Settings {
         graph,
@@ -136,49 +106,24 @@ fn with_graph(settings: Settings, graph: PlanarGraph, short: usize) -> Settings 
 fn prepare(
     call: Call,
     settings: Settings,
-    nodes_x: &mut [f64; 1024],
-    nodes_y: &mut [f64; 1024],
-    nodes_z: &mut [f64; 1024],
-    nodes_degree: &mut [u16; 1024],
-    nodes_marked: &mut [bool; 1024],
-    edges_line: &mut [f64; 6144],
-    edges_line_id: &mut [u32; 1024],
-    dir_edges_src: &mut [u16; 2048],
-    dir_edges_dst: &mut [u16; 2048],
-    dir_edges_marked: &mut [bool; 2048],
-    nodes_outgoing: &mut [u16; 2048],
+    floats: &mut [f64; FLOATS],
+    numbers: &mut [u16; NUMBERS],
+    stars: &mut [u16; STARS],
+    marks: &mut [bool; MARKS],
+    ids: &mut [u32; IDS],
 ) -> Settings {
     let graph = settings.graph;
     match call {
-        Call::Show => show_state(
-            graph,
-            nodes_x,
-            nodes_y,
-            nodes_z,
-            nodes_degree,
-            nodes_marked,
-            edges_line,
-            edges_line_id,
-            dir_edges_src,
-            dir_edges_dst,
-            dir_edges_marked,
-            nodes_outgoing,
-        ),
+        Call::Show => show_state(graph, floats, numbers, stars, marks, ids),
         Call::Set(table, place, number) => put_entry(
             table,
             place,
             number,
-            nodes_x,
-            nodes_y,
-            nodes_z,
-            nodes_degree,
-            nodes_marked,
-            edges_line,
-            edges_line_id,
-            dir_edges_src,
-            dir_edges_dst,
-            dir_edges_marked,
-            nodes_outgoing,
+            floats,
+            numbers,
+            stars,
+            marks,
+            ids,
         ),
         Call::Unknown => say(b"unknown\n"),
         _ => {}
@@ -199,7 +144,7 @@ fn set_by(call: Call, settings: Settings) -> Settings {
             },
             settings.short,
         ),
-        Call::Short(table) => with_graph(settings, graph, table),
+        Call::Short(table) => with_graph(settings, graph, slice_of(table)),
         Call::List(length) => Settings {
             graph,
             short: settings.short,
@@ -213,23 +158,17 @@ fn set_by(call: Call, settings: Settings) -> Settings {
 pub fn step(
     call: Call,
     settings: Settings,
-    nodes_x: &mut [f64; 1024],
-    nodes_y: &mut [f64; 1024],
-    nodes_z: &mut [f64; 1024],
-    nodes_degree: &mut [u16; 1024],
-    nodes_marked: &mut [bool; 1024],
-    edges_line: &mut [f64; 6144],
-    edges_line_id: &mut [u32; 1024],
-    dir_edges_src: &mut [u16; 2048],
-    dir_edges_dst: &mut [u16; 2048],
-    dir_edges_marked: &mut [bool; 2048],
-    nodes_outgoing: &mut [u16; 2048],
-    half_edges: &mut [u16; 2048],
-    ring_first: &mut [u16; 2048],
-    ring_length: &mut [u16; 2048],
-    ring_face: &mut [u16; 2048],
-    ring_side: &mut [u8; 2048],
-    ring_area: &mut [f64; 2048],
+    floats: &mut [f64; FLOATS],
+    numbers: &mut [u16; NUMBERS],
+    stars: &mut [u16; STARS],
+    marks: &mut [bool; MARKS],
+    ids: &mut [u32; IDS],
+    half_edges: &mut [u16; MAX_HALF_EDGES],
+    ring_first: &mut [u16; MAX_HALF_EDGES],
+    ring_length: &mut [u16; MAX_HALF_EDGES],
+    ring_face: &mut [u16; MAX_HALF_EDGES],
+    ring_side: &mut [u8; MAX_HALF_EDGES],
+    ring_area: &mut [f64; MAX_HALF_EDGES],
     before: &mut [u64; IMAGE],
     after: &mut [u64; IMAGE],
 ) -> Settings {
@@ -237,17 +176,11 @@ pub fn step(
         let new = perform(
             entry,
             settings,
-            nodes_x,
-            nodes_y,
-            nodes_z,
-            nodes_degree,
-            nodes_marked,
-            edges_line,
-            edges_line_id,
-            dir_edges_src,
-            dir_edges_dst,
-            dir_edges_marked,
-            nodes_outgoing,
+            floats,
+            numbers,
+            stars,
+            marks,
+            ids,
             half_edges,
             ring_first,
             ring_length,
@@ -257,21 +190,7 @@ pub fn step(
             before,
             after,
         );
-        return with_graph(settings, new, 11);
+        return with_graph(settings, new, NO_SLICE);
     }
-    prepare(
-        call,
-        settings,
-        nodes_x,
-        nodes_y,
-        nodes_z,
-        nodes_degree,
-        nodes_marked,
-        edges_line,
-        edges_line_id,
-        dir_edges_src,
-        dir_edges_dst,
-        dir_edges_marked,
-        nodes_outgoing,
-    )
+    prepare(call, settings, floats, numbers, stars, marks, ids)
 }

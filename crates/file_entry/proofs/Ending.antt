@@ -7,7 +7,7 @@ use Rattle.rules.specs.Limits.{Limits}
 use Rattle.rules.specs.State.{State}
 use Rattle.rules.specs.Adding.{Outcome, Nothing}
 use Rattle.rules.specs.SegmentFile.{Read, readAt}
-use Rattle.planar_graph.specs.Clauses.{left}
+use Rattle.calls.specs.Replies.{left}
 use Rattle.intake.specs.Taking.{Taking, takeRecords, endReply, closed, takeFile}
 use Rattle.intake.specs.Answers.{replyOf}
 use Rattle.intake.specs.declared.TakeReply.{TakeReply}

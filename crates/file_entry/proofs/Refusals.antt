@@ -4,7 +4,7 @@ use mathlib.Core.Path.{refl}
 use mathlib.Core.List.{List}
 use Rattle.rules.specs.Limits.{Limits}
 use Rattle.rules.specs.State.{State}
-use Rattle.planar_graph.proofs.Refusals.{Keeps, success-keeps, step-keeps}
+use Rattle.calls.proofs.Refusals.{Keeps, success-keeps, step-keeps}
 use Rattle.file_entry.specs.FileAdding.{addRecords}
 
 pub records-keeps : (l : Limits) (bytes : List ℕ) (s : State) → Keeps s (record {}) (addRecords l bytes s)

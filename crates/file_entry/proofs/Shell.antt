@@ -5,9 +5,9 @@ use mathlib.Core.List.{List}
 use Rattle.rules.specs.Limits.{Limits}
 use Rattle.rules.specs.State.{State}
 use Rattle.tables.specs.declared.Refusal.{Refusal}
-use Rattle.planar_graph.specs.Checks.{stageCheck}
-use Rattle.planar_graph.specs.declared.checks.Checked.the-variants.{Refused}
-use Rattle.planar_graph.proofs.Shells.{turnedDown, Good, step-stops, step-passes}
+use Rattle.calls.specs.Checks.{stageCheck}
+use Rattle.calls.specs.declared.checks.Checked.the-variants.{Refused}
+use Rattle.calls.proofs.Shells.{turnedDown, Good, step-stops, step-passes}
 use Rattle.intake.specs.Taking.{takeFile}
 use Rattle.file_entry.specs.FileAdding.{recordsTaken, addRecords}
 

@@ -1,5 +1,5 @@
 -- Answers that the definition gives by computation: a file, its parts and bad records, and the refusals of the call.
-use Prim.Native.Nat.{ℕ}
+use Prim.Native.Nat.{ℕ, _-_, _*_}
 use mathlib.Core.Path.{_≡_, refl}
 use mathlib.Core.Bool.{true}
 use mathlib.Core.List.{List, [], _∷_, _++_}
@@ -17,16 +17,16 @@ empty stage length = record {
   edges = 0;
   stage = stage;
   nodeX = replicate length nan;
-  nodeY = replicate 1024 nan;
-  nodeZ = replicate 1024 nan;
-  degree = replicate 1024 7;
-  nodeMark = replicate 1024 true;
-  segment = replicate 6144 nan;
-  lineId = replicate 1024 7;
-  source = replicate 2048 7;
-  target = replicate 2048 7;
-  halfMark = replicate 2048 true;
-  star = replicate 2048 7;
+  nodeY = replicate (limits .nodes) nan;
+  nodeZ = replicate (limits .nodes) nan;
+  degree = replicate (limits .nodes) 7;
+  nodeMark = replicate (limits .nodes) true;
+  segment = replicate (6 * limits .edges) nan;
+  lineId = replicate (limits .edges) 7;
+  source = replicate (2 * limits .edges) 7;
+  target = replicate (2 * limits .edges) 7;
+  halfMark = replicate (2 * limits .edges) true;
+  star = replicate (2 * limits .edges) 7;
 }
 
 -- the bytes of a record from (0, 0) to a point with y 0: its x is 4.0 or 6.0 by a byte, 16 or 24
@@ -47,15 +47,15 @@ taken n number = success (record { taken = n; number = number })
 -- second; then a stage that is not 0, a stage that is none, and a table too short
 abbrev found : List (Reply Records)
 found =
-    answer file (empty 0 1024)
-    ∷ answer [] (empty 0 1024)
-    ∷ answer (take 173 file) (empty 0 1024)
-    ∷ answer (set file 58 53) (empty 0 1024)
-    ∷ answer (set file 62 2) (empty 0 1024)
-    ∷ answer (set (set (set file 17 128) 40 0) 41 0) (empty 0 1024)
-    ∷ answer file (empty 1 1024)
-    ∷ answer file (empty 5 1024)
-    ∷ answer file (empty 5 1023)
+    answer file (empty 0 (limits .nodes))
+    ∷ answer [] (empty 0 (limits .nodes))
+    ∷ answer (take 173 file) (empty 0 (limits .nodes))
+    ∷ answer (set file 58 53) (empty 0 (limits .nodes))
+    ∷ answer (set file 62 2) (empty 0 (limits .nodes))
+    ∷ answer (set (set (set file 17 128) 40 0) 41 0) (empty 0 (limits .nodes))
+    ∷ answer file (empty 1 (limits .nodes))
+    ∷ answer file (empty 5 (limits .nodes))
+    ∷ answer file (empty 5 (limits .nodes - 1))
     ∷ []
 
 abbrev expected : List (Reply Records)

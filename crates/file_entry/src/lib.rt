@@ -4,19 +4,19 @@ ghost use mathlib.Core.Path.{_≡_};
 ghost use Rattle.adding.specs.Outcomes.{Ready};
 ghost use Rattle.rules.specs.Limits.{limits};
 ghost use Rattle.rules.specs.SegmentFile.{readAt};
-ghost use Rattle.tables.specs.Tables.{stateOf};
-ghost use Rattle.planar_graph.specs.Clauses.{left};
+ghost use Rattle.tables.specs.Regions.{stateIn};
+ghost use Rattle.calls.specs.Replies.{left};
 ghost use Rattle.intake.specs.Taking.{takeFile};
 ghost use Rattle.intake.specs.Answers.{replyOf};
 ghost use Rattle.file_entry.specs.FileAdding.{lastNumber, recordsTaken, addRecords};
 ghost use Rattle.file_entry.specs.Replies.{fileReply};
+use calls::Checked;
+use calls::check_stage;
 use intake::RECORD_BYTES;
 use intake::TakeReply;
-use planar_graph::Checked;
-use planar_graph::PlanarGraph;
-use planar_graph::Refusal;
-use planar_graph::check_stage;
 use segment_file::Record;
+use tables::PlanarGraph;
+use tables::Refusal;
 
 // What is answered: how many records were taken and the number of the refusal that ended it, 0 where
 // the file did; or the refusal of the call, which added none.
@@ -51,37 +51,17 @@ fn end_number(bytes: &[u8], at: usize, reply: TakeReply) -> u64
 fn take_file(
     graph: PlanarGraph,
     bytes: &[u8],
-    nodes_x: &mut [f64],
-    nodes_y: &mut [f64],
-    nodes_z: &mut [f64],
-    nodes_degree: &mut [u16],
-    nodes_marked: &mut [bool],
-    edges_line: &mut [f64],
-    edges_line_id: &mut [u32],
-    dir_edges_src: &mut [u16],
-    dir_edges_dst: &mut [u16],
-    dir_edges_marked: &mut [bool],
-    nodes_outgoing: &mut [u16],
+    floats: &mut [f64],
+    numbers: &mut [u16],
+    stars: &mut [u16],
+    marks: &mut [bool],
+    ids: &mut [u32],
 ) -> FileAdded
-    requires { ⌜ Ready limits (stateOf graph (now «nodes_x») (now «nodes_y») (now «nodes_z») (now «nodes_degree») (now «nodes_marked») (now «edges_line») (now «edges_line_id») (now «dir_edges_src») (now «dir_edges_dst») (now «dir_edges_marked») (now «nodes_outgoing»)) ⌝ }
-    ensures { λ r. ⌜ left (fileReply (r .reply)) (stateOf (r .graph) (now («nodes_x» .exit)) (now («nodes_y» .exit)) (now («nodes_z» .exit)) (now («nodes_degree» .exit)) (now («nodes_marked» .exit)) (now («edges_line» .exit)) (now («edges_line_id» .exit)) (now («dir_edges_src» .exit)) (now («dir_edges_dst» .exit)) (now («dir_edges_marked» .exit)) (now («nodes_outgoing» .exit)))
-        ≡ recordsTaken (takeFile limits (now (bytes .entry)) (stateOf graph (now («nodes_x» .entry)) (now («nodes_y» .entry)) (now («nodes_z» .entry)) (now («nodes_degree» .entry)) (now («nodes_marked» .entry)) (now («edges_line» .entry)) (now («edges_line_id» .entry)) (now («dir_edges_src» .entry)) (now («dir_edges_dst» .entry)) (now («dir_edges_marked» .entry)) (now («nodes_outgoing» .entry)))) ⌝ }
+    requires { ⌜ Ready limits (stateIn limits graph (now floats) (now numbers) (now stars) (now marks) (now ids)) ⌝ }
+    ensures { λ r. ⌜ left (fileReply (r .reply)) (stateIn limits (r .graph) (now (floats .exit)) (now (numbers .exit)) (now (stars .exit)) (now (marks .exit)) (now (ids .exit)))
+        ≡ recordsTaken (takeFile limits (now (bytes .entry)) (stateIn limits graph (now (floats .entry)) (now (numbers .entry)) (now (stars .entry)) (now (marks .entry)) (now (ids .entry)))) ⌝ }
 {
-    let taken = intake::take_records(
-        graph,
-        bytes,
-        nodes_x,
-        nodes_y,
-        nodes_z,
-        nodes_degree,
-        nodes_marked,
-        edges_line,
-        edges_line_id,
-        dir_edges_src,
-        dir_edges_dst,
-        dir_edges_marked,
-        nodes_outgoing,
-    );
+    let taken = intake::take_records(graph, bytes, floats, numbers, stars, marks, ids);
     let after = taken.graph;
     let count = taken.count;
     let reply = taken.reply;
@@ -97,55 +77,21 @@ fn take_file(
 pub fn add_records(
     graph: PlanarGraph,
     bytes: &[u8],
-    nodes_x: &mut [f64],
-    nodes_y: &mut [f64],
-    nodes_z: &mut [f64],
-    nodes_degree: &mut [u16],
-    nodes_marked: &mut [bool],
-    edges_line: &mut [f64],
-    edges_line_id: &mut [u32],
-    dir_edges_src: &mut [u16],
-    dir_edges_dst: &mut [u16],
-    dir_edges_marked: &mut [bool],
-    nodes_outgoing: &mut [u16],
+    floats: &mut [f64],
+    numbers: &mut [u16],
+    stars: &mut [u16],
+    marks: &mut [bool],
+    ids: &mut [u32],
 ) -> FileAdded
-    ensures { λ r. ⌜ left (fileReply (r .reply)) (stateOf (r .graph) (now («nodes_x» .exit)) (now («nodes_y» .exit)) (now («nodes_z» .exit)) (now («nodes_degree» .exit)) (now («nodes_marked» .exit)) (now («edges_line» .exit)) (now («edges_line_id» .exit)) (now («dir_edges_src» .exit)) (now («dir_edges_dst» .exit)) (now («dir_edges_marked» .exit)) (now («nodes_outgoing» .exit)))
-        ≡ addRecords limits (now (bytes .entry)) (stateOf graph (now («nodes_x» .entry)) (now («nodes_y» .entry)) (now («nodes_z» .entry)) (now («nodes_degree» .entry)) (now («nodes_marked» .entry)) (now («edges_line» .entry)) (now («edges_line_id» .entry)) (now («dir_edges_src» .entry)) (now («dir_edges_dst» .entry)) (now («dir_edges_marked» .entry)) (now («nodes_outgoing» .entry))) ⌝ }
+    ensures { λ r. ⌜ left (fileReply (r .reply)) (stateIn limits (r .graph) (now (floats .exit)) (now (numbers .exit)) (now (stars .exit)) (now (marks .exit)) (now (ids .exit)))
+        ≡ addRecords limits (now (bytes .entry)) (stateIn limits graph (now (floats .entry)) (now (numbers .entry)) (now (stars .entry)) (now (marks .entry)) (now (ids .entry))) ⌝ }
 {
-    let checked = check_stage(
-        0,
-        graph,
-        nodes_x,
-        nodes_y,
-        nodes_z,
-        nodes_degree,
-        nodes_marked,
-        edges_line,
-        edges_line_id,
-        dir_edges_src,
-        dir_edges_dst,
-        dir_edges_marked,
-        nodes_outgoing,
-    );
+    let checked = check_stage(0, graph, floats, numbers, stars, marks, ids);
     if let Checked::Refused(why) = checked {
         return FileAdded {
             graph,
             reply: FileReply::Refused(why),
         };
     }
-    take_file(
-        graph,
-        bytes,
-        nodes_x,
-        nodes_y,
-        nodes_z,
-        nodes_degree,
-        nodes_marked,
-        edges_line,
-        edges_line_id,
-        dir_edges_src,
-        dir_edges_dst,
-        dir_edges_marked,
-        nodes_outgoing,
-    )
+    take_file(graph, bytes, floats, numbers, stars, marks, ids)
 }

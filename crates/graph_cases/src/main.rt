@@ -1,4 +1,4 @@
-// Runs the worked cases: the call list in the file stdin, against what document 01 says of each call.
+// Runs the call lists in the file stdin: the worked cases, and a sample of the original Rust's answers.
 fn main() {
     call_runs::run_input();
 }

@@ -5,7 +5,8 @@ use mathlib.Core.List.{List}
 use lib.Ieee.{Float}
 use Rattle.geometry.specs.Reply.{Reply, refused, success}
 use Rattle.rules.specs.Adding.{Outcome, Nothing}
-use Rattle.tables.specs.Tables.{stateOf}
+use Rattle.rules.specs.Limits.{limits}
+use Rattle.tables.specs.Regions.{stateIn}
 use Rattle.intake.specs.Taking.{Taking}
 use Rattle.intake.specs.declared.TakeReply.{TakeReply}
 use Rattle.intake.specs.declared.TakeReply.the-variants.{Done, Refused}
@@ -17,18 +18,18 @@ abbrev pub replyOf : TakeReply → Reply Nothing
 replyOf Done = success (record {})
 replyOf (Refused n) = refused n
 
--- one record's answer with the counts, the stage and the tables
-abbrev pub turnOf : Turn → List Float → List Float → List Float → List ℕ → List Bool → List Float → List ℕ → List ℕ → List ℕ → List Bool → List ℕ → Outcome Nothing Nothing
-turnOf r nodesX nodesY nodesZ nodesDegree nodesMarked edgesLine edgesLineId dirEdgesSrc dirEdgesDst dirEdgesMarked nodesOutgoing = record {
+-- one record's answer with the counts, the stage and the slices
+abbrev pub turnOf : Turn → List Float → List ℕ → List ℕ → List Bool → List ℕ → Outcome Nothing Nothing
+turnOf r floats numbers stars marks ids = record {
   reply = replyOf (r .reply);
-  state = stateOf (r .graph) nodesX nodesY nodesZ nodesDegree nodesMarked edgesLine edgesLineId dirEdgesSrc dirEdgesDst dirEdgesMarked nodesOutgoing;
+  state = stateIn limits (r .graph) floats numbers stars marks ids;
   lists = record {};
 }
 
 -- the same of many records, with how many were taken
-abbrev pub takingOf : Taken → List Float → List Float → List Float → List ℕ → List Bool → List Float → List ℕ → List ℕ → List ℕ → List Bool → List ℕ → Taking
-takingOf r nodesX nodesY nodesZ nodesDegree nodesMarked edgesLine edgesLineId dirEdgesSrc dirEdgesDst dirEdgesMarked nodesOutgoing = record {
+abbrev pub takingOf : Taken → List Float → List ℕ → List ℕ → List Bool → List ℕ → Taking
+takingOf r floats numbers stars marks ids = record {
   reply = replyOf (r .reply);
   count = r .count;
-  state = stateOf (r .graph) nodesX nodesY nodesZ nodesDegree nodesMarked edgesLine edgesLineId dirEdgesSrc dirEdgesDst dirEdgesMarked nodesOutgoing;
+  state = stateIn limits (r .graph) floats numbers stars marks ids;
 }

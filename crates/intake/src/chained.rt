@@ -5,7 +5,7 @@ ghost use Rattle.adding.specs.Outcomes.{replyOf as addReplyOf};
 ghost use Rattle.lookup.specs.Indexed.{Indexed};
 ghost use Rattle.rules.specs.Limits.{limits};
 ghost use Rattle.rules.specs.SegmentFile.{readAt};
-ghost use Rattle.tables.specs.Tables.{stateOf};
+ghost use Rattle.tables.specs.Regions.{stateIn};
 ghost use Rattle.intake.specs.Taking.{alone, takeRecord, takeRecords};
 ghost use Rattle.intake.specs.Answers.{replyOf, turnOf, takingOf};
 use crate::RECORD_BYTES;
@@ -35,42 +35,30 @@ fn take_record(
     graph: PlanarGraph,
     bytes: &[u8],
     at: usize,
-    nodes_x: &mut [f64],
-    nodes_y: &mut [f64],
-    nodes_z: &mut [f64],
-    nodes_degree: &mut [u16],
-    nodes_marked: &mut [bool],
-    edges_line: &mut [f64],
-    edges_line_id: &mut [u32],
-    dir_edges_src: &mut [u16],
-    dir_edges_dst: &mut [u16],
-    dir_edges_marked: &mut [bool],
-    nodes_outgoing: &mut [u16],
+    floats: &mut [f64],
+    numbers: &mut [u16],
+    stars: &mut [u16],
+    marks: &mut [bool],
+    ids: &mut [u32],
     node_chains: &mut [u16],
     half_chains: &mut [u16],
 ) -> Turn
-    requires { ⌜ Ready limits (stateOf graph (now «nodes_x») (now «nodes_y») (now «nodes_z») (now «nodes_degree») (now «nodes_marked») (now «edges_line») (now «edges_line_id») (now «dir_edges_src») (now «dir_edges_dst») (now «dir_edges_marked») (now «nodes_outgoing»)) ⌝ }
-    requires { ⌜ Indexed limits (stateOf graph (now «nodes_x») (now «nodes_y») (now «nodes_z») (now «nodes_degree») (now «nodes_marked») (now «edges_line») (now «edges_line_id») (now «dir_edges_src») (now «dir_edges_dst») (now «dir_edges_marked») (now «nodes_outgoing»)) (now «node_chains») (now «half_chains») ⌝ }
-    ensures turn { λ r. ⌜ turnOf r (now («nodes_x» .exit)) (now («nodes_y» .exit)) (now («nodes_z» .exit)) (now («nodes_degree» .exit)) (now («nodes_marked» .exit)) (now («edges_line» .exit)) (now («edges_line_id» .exit)) (now («dir_edges_src» .exit)) (now («dir_edges_dst» .exit)) (now («dir_edges_marked» .exit)) (now («nodes_outgoing» .exit))
-        ≡ takeRecord limits (readAt (now (bytes .entry)) at) (stateOf graph (now («nodes_x» .entry)) (now («nodes_y» .entry)) (now («nodes_z» .entry)) (now («nodes_degree» .entry)) (now («nodes_marked» .entry)) (now («edges_line» .entry)) (now («edges_line_id» .entry)) (now («dir_edges_src» .entry)) (now («dir_edges_dst» .entry)) (now («dir_edges_marked» .entry)) (now («nodes_outgoing» .entry))) ⌝ }
-    ensures chains { λ r. ⌜ Indexed limits (stateOf (r .graph) (now («nodes_x» .exit)) (now («nodes_y» .exit)) (now («nodes_z» .exit)) (now («nodes_degree» .exit)) (now («nodes_marked» .exit)) (now («edges_line» .exit)) (now («edges_line_id» .exit)) (now («dir_edges_src» .exit)) (now («dir_edges_dst» .exit)) (now («dir_edges_marked» .exit)) (now («nodes_outgoing» .exit))) (now («node_chains» .exit)) (now («half_chains» .exit)) ⌝ }
+    requires { ⌜ Ready limits (stateIn limits graph (now floats) (now numbers) (now stars) (now marks) (now ids)) ⌝ }
+    requires { ⌜ Indexed limits (stateIn limits graph (now floats) (now numbers) (now stars) (now marks) (now ids)) (now «node_chains») (now «half_chains») ⌝ }
+    ensures turn { λ r. ⌜ turnOf r (now (floats .exit)) (now (numbers .exit)) (now (stars .exit)) (now (marks .exit)) (now (ids .exit))
+        ≡ takeRecord limits (readAt (now (bytes .entry)) at) (stateIn limits graph (now (floats .entry)) (now (numbers .entry)) (now (stars .entry)) (now (marks .entry)) (now (ids .entry))) ⌝ }
+    ensures chains { λ r. ⌜ Indexed limits (stateIn limits (r .graph) (now (floats .exit)) (now (numbers .exit)) (now (stars .exit)) (now (marks .exit)) (now (ids .exit))) (now («node_chains» .exit)) (now («half_chains» .exit)) ⌝ }
 {
     match segment_file::read_record(bytes, at) {
         Record::Segment(line, _) => {
-            let added = lookup::add_chained(
+            let added = indexing::add_chained(
                 graph,
                 line,
-                nodes_x,
-                nodes_y,
-                nodes_z,
-                nodes_degree,
-                nodes_marked,
-                edges_line,
-                edges_line_id,
-                dir_edges_src,
-                dir_edges_dst,
-                dir_edges_marked,
-                nodes_outgoing,
+                floats,
+                numbers,
+                stars,
+                marks,
+                ids,
                 node_chains,
                 half_chains,
             );
@@ -97,24 +85,18 @@ fn take_record(
 pub fn take_chained(
     graph: PlanarGraph,
     bytes: &[u8],
-    nodes_x: &mut [f64],
-    nodes_y: &mut [f64],
-    nodes_z: &mut [f64],
-    nodes_degree: &mut [u16],
-    nodes_marked: &mut [bool],
-    edges_line: &mut [f64],
-    edges_line_id: &mut [u32],
-    dir_edges_src: &mut [u16],
-    dir_edges_dst: &mut [u16],
-    dir_edges_marked: &mut [bool],
-    nodes_outgoing: &mut [u16],
+    floats: &mut [f64],
+    numbers: &mut [u16],
+    stars: &mut [u16],
+    marks: &mut [bool],
+    ids: &mut [u32],
     node_chains: &mut [u16],
     half_chains: &mut [u16],
 ) -> Taken
-    requires { ⌜ Ready limits (stateOf graph (now «nodes_x») (now «nodes_y») (now «nodes_z») (now «nodes_degree») (now «nodes_marked») (now «edges_line») (now «edges_line_id») (now «dir_edges_src») (now «dir_edges_dst») (now «dir_edges_marked») (now «nodes_outgoing»)) ⌝ }
-    requires { ⌜ Indexed limits (stateOf graph (now «nodes_x») (now «nodes_y») (now «nodes_z») (now «nodes_degree») (now «nodes_marked») (now «edges_line») (now «edges_line_id») (now «dir_edges_src») (now «dir_edges_dst») (now «dir_edges_marked») (now «nodes_outgoing»)) (now «node_chains») (now «half_chains») ⌝ }
-    ensures { λ r. ⌜ takingOf r (now («nodes_x» .exit)) (now («nodes_y» .exit)) (now («nodes_z» .exit)) (now («nodes_degree» .exit)) (now («nodes_marked» .exit)) (now («edges_line» .exit)) (now («edges_line_id» .exit)) (now («dir_edges_src» .exit)) (now («dir_edges_dst» .exit)) (now («dir_edges_marked» .exit)) (now («nodes_outgoing» .exit))
-        ≡ takeRecords limits (now (bytes .entry)) (stateOf graph (now («nodes_x» .entry)) (now («nodes_y» .entry)) (now («nodes_z» .entry)) (now («nodes_degree» .entry)) (now («nodes_marked» .entry)) (now («edges_line» .entry)) (now («edges_line_id» .entry)) (now («dir_edges_src» .entry)) (now («dir_edges_dst» .entry)) (now («dir_edges_marked» .entry)) (now («nodes_outgoing» .entry))) ⌝ }
+    requires { ⌜ Ready limits (stateIn limits graph (now floats) (now numbers) (now stars) (now marks) (now ids)) ⌝ }
+    requires { ⌜ Indexed limits (stateIn limits graph (now floats) (now numbers) (now stars) (now marks) (now ids)) (now «node_chains») (now «half_chains») ⌝ }
+    ensures { λ r. ⌜ takingOf r (now (floats .exit)) (now (numbers .exit)) (now (stars .exit)) (now (marks .exit)) (now (ids .exit))
+        ≡ takeRecords limits (now (bytes .entry)) (stateIn limits graph (now (floats .entry)) (now (numbers .entry)) (now (stars .entry)) (now (marks .entry)) (now (ids .entry))) ⌝ }
 {
     let whole = bytes.len() / RECORD_BYTES;
     let mut current = graph;
@@ -124,17 +106,11 @@ pub fn take_chained(
             current,
             bytes,
             RECORD_BYTES * count,
-            nodes_x,
-            nodes_y,
-            nodes_z,
-            nodes_degree,
-            nodes_marked,
-            edges_line,
-            edges_line_id,
-            dir_edges_src,
-            dir_edges_dst,
-            dir_edges_marked,
-            nodes_outgoing,
+            floats,
+            numbers,
+            stars,
+            marks,
+            ids,
             node_chains,
             half_chains,
         );

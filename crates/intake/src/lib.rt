@@ -5,7 +5,7 @@ ghost use mathlib.Core.Path.{_≡_};
 ghost use Rattle.adding.specs.Outcomes.{Ready};
 ghost use Rattle.rules.specs.Limits.{limits};
 ghost use Rattle.rules.specs.SegmentFile.{readAt};
-ghost use Rattle.tables.specs.Tables.{stateOf};
+ghost use Rattle.tables.specs.Regions.{stateIn};
 ghost use Rattle.intake.specs.Taking.{takeRecords, endReply};
 ghost use Rattle.intake.specs.Answers.{replyOf, takingOf};
 use chained::take_chained;
@@ -61,48 +61,34 @@ pub fn end_reply(bytes: &[u8]) -> TakeReply
 pub fn take_records(
     graph: PlanarGraph,
     bytes: &[u8],
-    nodes_x: &mut [f64],
-    nodes_y: &mut [f64],
-    nodes_z: &mut [f64],
-    nodes_degree: &mut [u16],
-    nodes_marked: &mut [bool],
-    edges_line: &mut [f64],
-    edges_line_id: &mut [u32],
-    dir_edges_src: &mut [u16],
-    dir_edges_dst: &mut [u16],
-    dir_edges_marked: &mut [bool],
-    nodes_outgoing: &mut [u16],
+    floats: &mut [f64],
+    numbers: &mut [u16],
+    stars: &mut [u16],
+    marks: &mut [bool],
+    ids: &mut [u32],
 ) -> Taken
-    requires { ⌜ Ready limits (stateOf graph (now «nodes_x») (now «nodes_y») (now «nodes_z») (now «nodes_degree») (now «nodes_marked») (now «edges_line») (now «edges_line_id») (now «dir_edges_src») (now «dir_edges_dst») (now «dir_edges_marked») (now «nodes_outgoing»)) ⌝ }
-    ensures { λ r. ⌜ takingOf r (now («nodes_x» .exit)) (now («nodes_y» .exit)) (now («nodes_z» .exit)) (now («nodes_degree» .exit)) (now («nodes_marked» .exit)) (now («edges_line» .exit)) (now («edges_line_id» .exit)) (now («dir_edges_src» .exit)) (now («dir_edges_dst» .exit)) (now («dir_edges_marked» .exit)) (now («nodes_outgoing» .exit))
-        ≡ takeRecords limits (now (bytes .entry)) (stateOf graph (now («nodes_x» .entry)) (now («nodes_y» .entry)) (now («nodes_z» .entry)) (now («nodes_degree» .entry)) (now («nodes_marked» .entry)) (now («edges_line» .entry)) (now («edges_line_id» .entry)) (now («dir_edges_src» .entry)) (now («dir_edges_dst» .entry)) (now («dir_edges_marked» .entry)) (now («nodes_outgoing» .entry))) ⌝ }
+    requires { ⌜ Ready limits (stateIn limits graph (now floats) (now numbers) (now stars) (now marks) (now ids)) ⌝ }
+    ensures { λ r. ⌜ takingOf r (now (floats .exit)) (now (numbers .exit)) (now (stars .exit)) (now (marks .exit)) (now (ids .exit))
+        ≡ takeRecords limits (now (bytes .entry)) (stateIn limits graph (now (floats .entry)) (now (numbers .entry)) (now (stars .entry)) (now (marks .entry)) (now (ids .entry))) ⌝ }
 {
     let mut node_chains = [0u16; NODE_CHAINS];
     let mut half_chains = [0u16; HALF_CHAINS];
-    lookup::chain_all(
+    indexing::chain_all(
         graph,
-        nodes_x,
-        nodes_y,
-        dir_edges_src,
-        dir_edges_dst,
-        nodes_outgoing,
+        floats,
+        numbers,
+        stars,
         &mut node_chains,
         &mut half_chains,
     );
     take_chained(
         graph,
         bytes,
-        nodes_x,
-        nodes_y,
-        nodes_z,
-        nodes_degree,
-        nodes_marked,
-        edges_line,
-        edges_line_id,
-        dir_edges_src,
-        dir_edges_dst,
-        dir_edges_marked,
-        nodes_outgoing,
+        floats,
+        numbers,
+        stars,
+        marks,
+        ids,
         &mut node_chains,
         &mut half_chains,
     )

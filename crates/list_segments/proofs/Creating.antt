@@ -8,7 +8,8 @@ use Rattle.rules.specs.Stages.{created, create}
 use Rattle.rules.proofs.Replies.{demand-passed}
 use Rattle.adding.specs.Outcomes.{Ready}
 use Rattle.intake.proofs.Left.{created-ready}
-use Rattle.planar_graph.specs.Clauses.{left, Creates}
+use Rattle.calls.specs.Replies.{left}
+use Rattle.create_entry.specs.Clause.{Creates}
 
 -- what creating comes to where there is room
 abbrev makes : State → Outcome Nothing Nothing

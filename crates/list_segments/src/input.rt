@@ -5,13 +5,13 @@ ghost use Prim.Native.Nat.{_+_, _-_, _*_, _<_, _≤_};
 ghost use lib.ListN.{length, take};
 ghost use Rattle.adding.specs.Outcomes.{Ready};
 ghost use Rattle.rules.specs.Limits.{limits};
-ghost use Rattle.tables.specs.Tables.{stateOf};
+ghost use Rattle.tables.specs.Regions.{stateIn};
 ghost use Rattle.intake.specs.Taking.{takeRecords};
 ghost use Rattle.intake.specs.Answers.{takingOf};
 ghost use Rattle.list_segments.specs.Reading.{Fronted, takenOf, progressOf, Onward};
 use intake::RECORD_BYTES;
 use intake::TakeReply;
-use planar_graph::PlanarGraph;
+use tables::PlanarGraph;
 
 // No multiple of a record's length, so that records straddle two reads in every long file.
 const BUFFER_BYTES: usize = 65_536;
@@ -72,38 +72,18 @@ fn take_filled(
     graph: PlanarGraph,
     buffer: &mut [u8],
     filled: usize,
-    nodes_x: &mut [f64],
-    nodes_y: &mut [f64],
-    nodes_z: &mut [f64],
-    nodes_degree: &mut [u16],
-    nodes_marked: &mut [bool],
-    edges_line: &mut [f64],
-    edges_line_id: &mut [u32],
-    dir_edges_src: &mut [u16],
-    dir_edges_dst: &mut [u16],
-    dir_edges_marked: &mut [bool],
-    nodes_outgoing: &mut [u16],
+    floats: &mut [f64],
+    numbers: &mut [u16],
+    stars: &mut [u16],
+    marks: &mut [bool],
+    ids: &mut [u32],
 ) -> Filled
-    requires { ⌜ Ready limits (stateOf graph (now «nodes_x») (now «nodes_y») (now «nodes_z») (now «nodes_degree») (now «nodes_marked») (now «edges_line») (now «edges_line_id») (now «dir_edges_src») (now «dir_edges_dst») (now «dir_edges_marked») (now «nodes_outgoing»)) × (filled ≤ length (now buffer)) ⌝ }
-    ensures taking { λ r. ⌜ takingOf (takenOf r) (now («nodes_x» .exit)) (now («nodes_y» .exit)) (now («nodes_z» .exit)) (now («nodes_degree» .exit)) (now («nodes_marked» .exit)) (now («edges_line» .exit)) (now («edges_line_id» .exit)) (now («dir_edges_src» .exit)) (now («dir_edges_dst» .exit)) (now («dir_edges_marked» .exit)) (now («nodes_outgoing» .exit))
-        ≡ takeRecords limits (take filled (now (buffer .entry))) (stateOf graph (now («nodes_x» .entry)) (now («nodes_y» .entry)) (now («nodes_z» .entry)) (now («nodes_degree» .entry)) (now («nodes_marked» .entry)) (now («edges_line» .entry)) (now («edges_line_id» .entry)) (now («dir_edges_src» .entry)) (now («dir_edges_dst» .entry)) (now («dir_edges_marked» .entry)) (now («nodes_outgoing» .entry))) ⌝ }
+    requires { ⌜ Ready limits (stateIn limits graph (now floats) (now numbers) (now stars) (now marks) (now ids)) × (filled ≤ length (now buffer)) ⌝ }
+    ensures taking { λ r. ⌜ takingOf (takenOf r) (now (floats .exit)) (now (numbers .exit)) (now (stars .exit)) (now (marks .exit)) (now (ids .exit))
+        ≡ takeRecords limits (take filled (now (buffer .entry))) (stateIn limits graph (now (floats .entry)) (now (numbers .entry)) (now (stars .entry)) (now (marks .entry)) (now (ids .entry))) ⌝ }
     ensures rest { λ r. ⌜ (r .kept ≡ filled - 58 * r .count) × Fronted (58 * r .count) (r .kept) (now (buffer .entry)) (now (buffer .exit)) ⌝ }
 {
-    let taken = intake::take_records(
-        graph,
-        &buffer[..filled],
-        nodes_x,
-        nodes_y,
-        nodes_z,
-        nodes_degree,
-        nodes_marked,
-        edges_line,
-        edges_line_id,
-        dir_edges_src,
-        dir_edges_dst,
-        dir_edges_marked,
-        nodes_outgoing,
-    );
+    let taken = intake::take_records(graph, &buffer[..filled], floats, numbers, stars, marks, ids);
     let after = taken.graph;
     let reply = taken.reply;
     let count = taken.count;
@@ -134,20 +114,14 @@ fn read_turn(
     input: i32,
     buffer: &mut [u8],
     kept: usize,
-    nodes_x: &mut [f64],
-    nodes_y: &mut [f64],
-    nodes_z: &mut [f64],
-    nodes_degree: &mut [u16],
-    nodes_marked: &mut [bool],
-    edges_line: &mut [f64],
-    edges_line_id: &mut [u32],
-    dir_edges_src: &mut [u16],
-    dir_edges_dst: &mut [u16],
-    dir_edges_marked: &mut [bool],
-    nodes_outgoing: &mut [u16],
+    floats: &mut [f64],
+    numbers: &mut [u16],
+    stars: &mut [u16],
+    marks: &mut [bool],
+    ids: &mut [u32],
 ) -> Turn
-    requires { ⌜ Ready limits (stateOf graph (now «nodes_x») (now «nodes_y») (now «nodes_z») (now «nodes_degree») (now «nodes_marked») (now «edges_line») (now «edges_line_id») (now «dir_edges_src») (now «dir_edges_dst») (now «dir_edges_marked») (now «nodes_outgoing»)) × (kept < 58) × (length (now buffer) ≡ 65536) ⌝ }
-    ensures { λ r. ⌜ Ready limits (stateOf (r .graph) (now («nodes_x» .exit)) (now («nodes_y» .exit)) (now («nodes_z» .exit)) (now («nodes_degree» .exit)) (now («nodes_marked» .exit)) (now («edges_line» .exit)) (now («edges_line_id» .exit)) (now («dir_edges_src» .exit)) (now («dir_edges_dst» .exit)) (now («dir_edges_marked» .exit)) (now («nodes_outgoing» .exit))) × (r .count ≤ 1130) × Onward (r .progress) (r .kept) ⌝ }
+    requires { ⌜ Ready limits (stateIn limits graph (now floats) (now numbers) (now stars) (now marks) (now ids)) × (kept < 58) × (length (now buffer) ≡ 65536) ⌝ }
+    ensures { λ r. ⌜ Ready limits (stateIn limits (r .graph) (now (floats .exit)) (now (numbers .exit)) (now (stars .exit)) (now (marks .exit)) (now (ids .exit))) × (r .count ≤ 1130) × Onward (r .progress) (r .kept) ⌝ }
 {
     let got = libc::read(input, &mut buffer[kept..]);
     if got < 0 {
@@ -167,22 +141,7 @@ fn read_turn(
         };
     }
     let filled = kept + io::count(got, &buffer[kept..]);
-    let done = take_filled(
-        graph,
-        buffer,
-        filled,
-        nodes_x,
-        nodes_y,
-        nodes_z,
-        nodes_degree,
-        nodes_marked,
-        edges_line,
-        edges_line_id,
-        dir_edges_src,
-        dir_edges_dst,
-        dir_edges_marked,
-        nodes_outgoing,
-    );
+    let done = take_filled(graph, buffer, filled, floats, numbers, stars, marks, ids);
     let after = done.graph;
     let reply = done.reply;
     Turn {
@@ -197,19 +156,13 @@ fn read_turn(
 pub fn read_segments(
     graph: PlanarGraph,
     input: i32,
-    nodes_x: &mut [f64],
-    nodes_y: &mut [f64],
-    nodes_z: &mut [f64],
-    nodes_degree: &mut [u16],
-    nodes_marked: &mut [bool],
-    edges_line: &mut [f64],
-    edges_line_id: &mut [u32],
-    dir_edges_src: &mut [u16],
-    dir_edges_dst: &mut [u16],
-    dir_edges_marked: &mut [bool],
-    nodes_outgoing: &mut [u16],
+    floats: &mut [f64],
+    numbers: &mut [u16],
+    stars: &mut [u16],
+    marks: &mut [bool],
+    ids: &mut [u32],
 ) -> ReadOut
-    requires { ⌜ Ready limits (stateOf graph (now «nodes_x») (now «nodes_y») (now «nodes_z») (now «nodes_degree») (now «nodes_marked») (now «edges_line») (now «edges_line_id») (now «dir_edges_src») (now «dir_edges_dst») (now «dir_edges_marked») (now «nodes_outgoing»)) ⌝ }
+    requires { ⌜ Ready limits (stateIn limits graph (now floats) (now numbers) (now stars) (now marks) (now ids)) ⌝ }
 {
     let mut buffer = [0u8; BUFFER_BYTES];
     let mut current = graph;
@@ -222,17 +175,11 @@ pub fn read_segments(
             input,
             &mut buffer,
             kept,
-            nodes_x,
-            nodes_y,
-            nodes_z,
-            nodes_degree,
-            nodes_marked,
-            edges_line,
-            edges_line_id,
-            dir_edges_src,
-            dir_edges_dst,
-            dir_edges_marked,
-            nodes_outgoing,
+            floats,
+            numbers,
+            stars,
+            marks,
+            ids,
         );
         let after = turn.graph;
         let progress = turn.progress;

@@ -1,12 +1,17 @@
 // The listing of a segment file: read from a descriptor to its end, printed to another.
 ghost use Prim.Native.Nat.{_≤_};
 ghost use lib.ListN.{length};
+use create_entry::Created;
 use input::Progress;
 use input::read_segments;
 use libc::STDERR_FILENO;
 use listing_steps::LISTING_ROOM;
-use planar_graph::Created;
-use planar_graph::PlanarGraph;
+use tables::FLOATS;
+use tables::IDS;
+use tables::MARKS;
+use tables::NUMBERS;
+use tables::PlanarGraph;
+use tables::STARS;
 
 mod input;
 
@@ -36,33 +41,21 @@ fn print_listing(
     output: i32,
     graph: PlanarGraph,
     records: u64,
-    nodes_x: &[f64],
-    nodes_y: &[f64],
-    nodes_z: &[f64],
-    nodes_degree: &mut [u16],
-    nodes_marked: &mut [bool],
-    edges_line: &[f64],
-    edges_line_id: &[u32],
-    dir_edges_src: &[u16],
-    dir_edges_dst: &[u16],
-    dir_edges_marked: &mut [bool],
-    nodes_outgoing: &mut [u16],
+    floats: &[f64],
+    numbers: &[u16],
+    stars: &mut [u16],
+    marks: &mut [bool],
+    ids: &[u32],
 ) {
     let mut text = [0u8; LISTING_ROOM];
     let size = listing_steps::put_listing(
         graph,
         records,
-        nodes_x,
-        nodes_y,
-        nodes_z,
-        nodes_degree,
-        nodes_marked,
-        edges_line,
-        edges_line_id,
-        dir_edges_src,
-        dir_edges_dst,
-        dir_edges_marked,
-        nodes_outgoing,
+        floats,
+        numbers,
+        stars,
+        marks,
+        ids,
         &mut text,
     );
     write_text(output, &text, size);
@@ -74,34 +67,22 @@ fn print_read(
     progress: Progress,
     graph: PlanarGraph,
     records: u64,
-    nodes_x: &[f64],
-    nodes_y: &[f64],
-    nodes_z: &[f64],
-    nodes_degree: &mut [u16],
-    nodes_marked: &mut [bool],
-    edges_line: &[f64],
-    edges_line_id: &[u32],
-    dir_edges_src: &[u16],
-    dir_edges_dst: &[u16],
-    dir_edges_marked: &mut [bool],
-    nodes_outgoing: &mut [u16],
+    floats: &[f64],
+    numbers: &[u16],
+    stars: &mut [u16],
+    marks: &mut [bool],
+    ids: &[u32],
 ) {
     match progress {
         Progress::Ended => print_listing(
             output,
             graph,
             records,
-            nodes_x,
-            nodes_y,
-            nodes_z,
-            nodes_degree,
-            nodes_marked,
-            edges_line,
-            edges_line_id,
-            dir_edges_src,
-            dir_edges_dst,
-            dir_edges_marked,
-            nodes_outgoing,
+            floats,
+            numbers,
+            stars,
+            marks,
+            ids,
         ),
         Progress::Refused(number) => print_refusal(output, number, records),
         Progress::More | Progress::Failed => complain(b"read error\n"),
@@ -110,47 +91,23 @@ fn print_read(
 
 // Lists the segments that can be read from `input` on `output`.
 pub fn list(input: i32, output: i32) {
-    let mut nodes_x = [0.0f64; 1024];
-    let mut nodes_y = [0.0f64; 1024];
-    let mut nodes_z = [0.0f64; 1024];
-    let mut nodes_degree = [0u16; 1024];
-    let mut nodes_marked = [false; 1024];
-    let mut edges_line = [0.0f64; 6144];
-    let mut edges_line_id = [0u32; 1024];
-    let mut dir_edges_src = [0u16; 2048];
-    let mut dir_edges_dst = [0u16; 2048];
-    let mut dir_edges_marked = [false; 2048];
-    let mut nodes_outgoing = [0u16; 2048];
-    let created = planar_graph::create(
-        &nodes_x,
-        &nodes_y,
-        &nodes_z,
-        &nodes_degree,
-        &nodes_marked,
-        &edges_line,
-        &edges_line_id,
-        &dir_edges_src,
-        &dir_edges_dst,
-        &dir_edges_marked,
-        &nodes_outgoing,
-    );
+    let mut floats = [0.0f64; FLOATS];
+    let mut numbers = [0u16; NUMBERS];
+    let mut stars = [0u16; STARS];
+    let mut marks = [false; MARKS];
+    let mut ids = [0u32; IDS];
+    let created = create_entry::create(&floats, &numbers, &stars, &marks, &ids);
     let Created::Graph(graph) = created else {
         return;
     };
     let read = read_segments(
         graph,
         input,
-        &mut nodes_x,
-        &mut nodes_y,
-        &mut nodes_z,
-        &mut nodes_degree,
-        &mut nodes_marked,
-        &mut edges_line,
-        &mut edges_line_id,
-        &mut dir_edges_src,
-        &mut dir_edges_dst,
-        &mut dir_edges_marked,
-        &mut nodes_outgoing,
+        &mut floats,
+        &mut numbers,
+        &mut stars,
+        &mut marks,
+        &mut ids,
     );
     let after = read.graph;
     let progress = read.progress;
@@ -159,16 +116,10 @@ pub fn list(input: i32, output: i32) {
         progress,
         after,
         read.records,
-        &nodes_x,
-        &nodes_y,
-        &nodes_z,
-        &mut nodes_degree,
-        &mut nodes_marked,
-        &edges_line,
-        &edges_line_id,
-        &dir_edges_src,
-        &dir_edges_dst,
-        &mut dir_edges_marked,
-        &mut nodes_outgoing,
+        &floats,
+        &numbers,
+        &mut stars,
+        &mut marks,
+        &ids,
     );
 }

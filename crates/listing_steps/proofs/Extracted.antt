@@ -1,5 +1,5 @@
 -- Ring extraction that succeeds leaves lists that hold the rings of its state.
-use Prim.Native.Nat.{ℕ, zero, suc, _+_, _^_, _<_, _≤_}
+use Prim.Native.Nat.{ℕ, zero, suc, _+_, _*_, _^_, _<_, _≤_}
 use native.Mathlib.Omega.{arith}
 use native.Mathlib.Nat.{zero-add}
 use mathlib.Core.Path.{_≡_, refl, sym, ap, subst, _∙_}
@@ -14,7 +14,7 @@ use Rattle.lists.proofs.Members.{length-upto}
 use Rattle.geometry.specs.Reply.{Reply, success}
 use Rattle.rules.specs.Face.{Ring, ringOf, doubledArea, faceNumber}
 use Rattle.rules.specs.Limits.{limits}
-use Rattle.rules.specs.State.{State, arrangement, pointOf, nodeKey, sound}
+use Rattle.rules.specs.State.{State, arrangement, pointOf, nodeKey, roomy, sound}
 use Rattle.rules.specs.Split.{minimalRings}
 use Rattle.rules.specs.Ringing.{Flat, sideBy, sideArea, floatArea, RingReply, ringReplies, ringsOf, RingLists, Ringing, ringed, ringStep}
 use Rattle.rules.specs.Claim.{ringsFrom}
@@ -23,7 +23,7 @@ use Rattle.rules.proofs.Claims.{halved}
 use Rattle.rules.proofs.Areas.{exact-areas}
 use Rattle.rules.proofs.Histories.{fine-limits}
 use Rattle.extracting.proofs.Bounds.{side-half, areas-small}
-use Rattle.planar_graph.specs.Clauses.{Extracts}
+use Rattle.ring_entry.specs.Clause.{Extracts}
 use Rattle.listing_steps.specs.Listing.{noRing}
 use Rattle.listing_steps.specs.Shown.{HalfOf, passed, Entry, Shown}
 use Rattle.listing_steps.proofs.Halving.{exact-half}
@@ -186,7 +186,7 @@ module _ (s : State) (sense : sound limits s ≡ true) (o out : RingLists)
         halved = subst (λ a. HalfOf a (getD (ringsOf s) k noRing .doubled)) (sym (listed (λ w. sideArea (w .side)) (o .area) (out .area) nan areas k h)) (area-half s sense k h);
       }
 
-  written-shown : length (o .halfEdges) ≡ 2048 → length (o .first) ≡ 2048 → Shown (ringsOf s) (o .halfEdges) (o .first) (o .length) (o .face) (o .area)
+  written-shown : length (o .halfEdges) ≡ 2 * limits .edges → length (o .first) ≡ 2 * limits .edges → Shown (ringsOf s) (o .halfEdges) (o .first) (o .length) (o .face) (o .area)
   written-shown a b = record {
     few = omega (arith, long (λ w. w .first) (o .first) (out .first) firsts);
     short = λ k h. omega (arith, all-listed k);
@@ -198,7 +198,7 @@ module _ (s : State) (sense : sound limits s ≡ true) (o out : RingLists)
   }
 
 -- what ring extraction writes
-ringed-shown : (s : State) (out : RingLists) → sound limits s ≡ true → length (ringed s out .lists .halfEdges) ≡ 2048 → length (ringed s out .lists .first) ≡ 2048
+ringed-shown : (s : State) (out : RingLists) → sound limits s ≡ true → length (ringed s out .lists .halfEdges) ≡ 2 * limits .edges → length (ringed s out .lists .first) ≡ 2 * limits .edges
     → (let o = ringed s out .lists in Shown (ringsOf s) (o .halfEdges) (o .first) (o .length) (o .face) (o .area))
 unfolding ringed
 ringed-shown s out sense a b = written-shown s sense (ringed s out .lists) out refl refl refl refl refl (ringed-from s out) a b
@@ -208,15 +208,18 @@ ringed-count : (s : State) (out : RingLists) (r : Ringing) → success r ≡ rin
 unfolding ringed
 ringed-count s out r e = cc
 
--- a ring extraction that succeeds, into lists of 2,048 entries
+-- a ring extraction that succeeds, into lists of an entry for each half-edge
 module _ (s after : State) (out lists : RingLists) (answer : Reply Ringing) (r : Ringing) (e : Extracts s out answer after lists) (done : answer ≡ success r) where
   passes : (sound limits s ≡ true) × (ringStep limits s out ≡ ringed s out)
   passes = let p = ring-step-passed limits s out r (ap (λ o. o .reply) (sym e) ∙ done) in (p .sense, p .gives)
 
+  pub extracted-room : roomy limits s ≡ true
+  extracted-room = ring-step-passed limits s out r (ap (λ o. o .reply) (sym e) ∙ done) .room
+
   pub extracted-count : r .count ≡ length (ringsOf s)
   extracted-count = ringed-count s out r (sym done ∙ ap (λ o. o .reply) (e ∙ passes .1))
 
-  pub extracted-shown : length (lists .halfEdges) ≡ 2048 → length (lists .first) ≡ 2048
+  pub extracted-shown : length (lists .halfEdges) ≡ 2 * limits .edges → length (lists .first) ≡ 2 * limits .edges
       → Shown (ringsOf s) (lists .halfEdges) (lists .first) (lists .length) (lists .face) (lists .area)
   extracted-shown a b =
       let same : lists ≡ ringed s out .lists = ap (λ o. o .lists) (e ∙ passes .1) in

@@ -12,11 +12,12 @@ use lib.Seq.{take-suc}
 use Rattle.lists.specs.Lists.{flatten}
 use Rattle.lists.proofs.Counts.{flatten-append}
 use Rattle.rules.specs.Face.{Ring, faceNumber}
+use Rattle.rules.specs.Limits.{limits}
 use Rattle.listing_text.specs.Lines.{headLine, ringNodes, startingNodes, ringLine}
 use Rattle.listing_text.specs.Buffer.{written, Put}
 use Rattle.listing_text.proofs.Buffers.{written-none, written-row}
 use Rattle.listing_text.proofs.Lengths.{head-short, ring-short}
-use Rattle.listing_steps.specs.Listing.{noRing, lineOf, linesOf, listingRoom}
+use Rattle.listing_steps.specs.Listing.{noRing, lineOf, linesOf, linesRoom, listingRoom}
 use Rattle.listing_steps.specs.Shown.{passed, Shown}
 use Rattle.listing_steps.proofs.Halving.{small-mag}
 
@@ -33,7 +34,7 @@ passed-next rings k h =
 
 module _ (rings : List Ring) (halfEdges first size face : List ℕ) (area : List Float) (shown : Shown rings halfEdges first size face area) where
   -- no ring is longer than all together
-  pub size-small : (k : ℕ) → k < length rings → getD size k 0 ≤ 2048
+  pub size-small : (k : ℕ) → k < length rings → getD size k 0 ≤ 2 * limits .edges
   size-small k h = omega (arith, shown .each k h .sized, passed-next rings k h, shown .short (suc k) (omega arith))
 
   module _ (source : List ℕ) where
@@ -62,7 +63,7 @@ module _ (rings : List Ring) (halfEdges first size face : List ℕ) (area : List
 
       -- so the next line fits where all lines were given room
       pub line-room : (at : ℕ) (old new : List ℕ) (place k : ℕ) → k < length rings → Put at (linesOf source rings k) old new place
-          → at + 78 * 2048 ≤ length new → place + (72 + 6 * getD size k 0) ≤ length new
+          → at + linesRoom limits ≤ length new → place + (72 + 6 * getD size k 0) ≤ length new
       line-room at old new place k h p room =
           omega (
             arith,
@@ -98,6 +99,6 @@ one-line source rings at k old new newer place after p q fits =
 
 -- after it the rings' lines have room
 pub head-room : (a b c d e : ℕ) (euler : Bool) (old new : List ℕ) (place : ℕ) → a < 2 ^ 64 → b < 2 ^ 64 → c < 2 ^ 64 → d < 2 ^ 64 → e < 2 ^ 64
-    → Put 0 (headLine a b c d e euler) old new place → listingRoom ≤ length old → length new ≡ length old → place + 78 * 2048 ≤ length new
+    → Put 0 (headLine a b c d e euler) old new place → listingRoom limits ≤ length old → length new ≡ length old → place + linesRoom limits ≤ length new
 head-room a b c d e euler old new place ha hb hc hd he p room same =
     omega (arith, p .after, head-short a b c d e euler ha hb hc hd he)

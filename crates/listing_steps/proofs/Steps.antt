@@ -5,7 +5,7 @@ use mathlib.Core.List.{List}
 use Rattle.geometry.specs.Reply.{Reply, refused, success}
 use Rattle.rules.specs.State.{State}
 use Rattle.rules.specs.Adding.{Outcome}
-use Rattle.planar_graph.specs.Clauses.{leftWith}
+use Rattle.calls.specs.Replies.{leftWith}
 use Rattle.listing_text.specs.Lines.{refusalLine}
 use Rattle.listing_steps.specs.Listing.{orLine}
 

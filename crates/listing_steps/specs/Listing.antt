@@ -11,7 +11,7 @@ use Rattle.rules.specs.Limits.{Limits}
 use Rattle.rules.specs.State.{State}
 use Rattle.rules.specs.Stages.{sort, pruneStep, cutStep}
 use Rattle.rules.specs.Ringing.{RingLists, ringsOf, ringStep}
-use Rattle.listing_text.specs.Lines.{headLine, headRoom, startingNodes, ringLine, refusalLine}
+use Rattle.listing_text.specs.Lines.{headLine, headRoom, startingNodes, ringLine, ringRoom, refusalLine}
 
 -- ---- the rings
 
@@ -38,36 +38,36 @@ orLine k (refused n) next = refusalLine n k
 orLine k (success a) next = next a
 
 -- lent lists that are long enough for every graph
-abbrev pub edgeList : List ℕ
-edgeList = replicate 1024 0
+abbrev pub edgeList : Limits → List ℕ
+edgeList l = replicate (l .edges) 0
 
-abbrev pub ringLists : RingLists
-ringLists = record {
-  halfEdges = replicate 2048 0;
-  first = replicate 2048 0;
-  length = replicate 2048 0;
-  face = replicate 2048 0;
-  side = replicate 2048 0;
-  area = replicate 2048 (fin false 0 (pos 0));
+abbrev pub ringLists : Limits → RingLists
+ringLists l = record {
+  halfEdges = replicate (2 * l .edges) 0;
+  first = replicate (2 * l .edges) 0;
+  length = replicate (2 * l .edges) 0;
+  face = replicate (2 * l .edges) 0;
+  side = replicate (2 * l .edges) 0;
+  area = replicate (2 * l .edges) (fin false 0 (pos 0));
 }
 
 -- cut: its rings are extracted, and line one and their lines are the listing
 abbrev pub cutText : Limits → ℕ → ℕ → ℕ → State → List ℕ
 cutText l k dangles cuts s =
-    let o = ringStep l s ringLists in
+    let o = ringStep l s (ringLists l) in
     orLine k (o .reply) (λ r.
     headLine (s .nodes) (s .edges) dangles cuts (r .count) (r .census .verdict) ++ linesOf (s .source) (ringsOf s) (r .count))
 
 -- pruned: it is cut first
 abbrev pub prunedText : Limits → ℕ → ℕ → State → List ℕ
 prunedText l k dangles s =
-    let o = cutStep l s edgeList in
+    let o = cutStep l s (edgeList l) in
     orLine k (o .reply) (λ r. cutText l k dangles (r .count) (o .state))
 
 -- sorted: it is pruned first
 abbrev pub sortedText : Limits → ℕ → State → List ℕ
 sortedText l k s =
-    let o = pruneStep l s edgeList in
+    let o = pruneStep l s (edgeList l) in
     orLine k (o .reply) (λ n. prunedText l k n (o .state))
 
 -- built from k records: it is sorted first
@@ -76,6 +76,10 @@ listedText l k s =
     let o = sort l s in
     orLine k (o .reply) (λ none. sortedText l k (o .state))
 
--- room for every listing: line one, and for each of at most 2,048 rings a line with, in all, at most 2,048 nodes
-abbrev pub listingRoom : ℕ
-listingRoom = headRoom + 78 * 2048
+-- room for the lines of the rings: there are no more of them than half-edges, and no more nodes in all of them
+abbrev pub linesRoom : Limits → ℕ
+linesRoom l = ringRoom 1 * (2 * l .edges)
+
+-- room for every listing: line one and the lines of the rings
+abbrev pub listingRoom : Limits → ℕ
+listingRoom l = headRoom + linesRoom l

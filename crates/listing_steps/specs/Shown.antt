@@ -1,5 +1,5 @@
 -- What writing the rings' lines asks of the lists: they hold rings, and each area is exactly half of a whole number.
-use Prim.Native.Nat.{ℕ, _+_, _^_, _<_, _≤_}
+use Prim.Native.Nat.{ℕ, _+_, _*_, _^_, _<_, _≤_}
 use mathlib.Core.Path.{_≡_}
 use mathlib.Core.List.{List, map}
 use lib.ListN.{length, getD, take, drop}
@@ -7,6 +7,7 @@ use lib.IntN.{ℤ, natAbs}
 use lib.Ieee.{Float, nan}
 use Rattle.lists.specs.Lists.{flatten}
 use Rattle.rules.specs.Face.{Ring, faceNumber}
+use Rattle.rules.specs.Limits.{limits}
 use Rattle.rules.specs.Ringing.{sideArea, exactSide}
 use Rattle.listing_steps.specs.Listing.{noRing}
 
@@ -30,8 +31,8 @@ pub record Entry (rings : List Ring) (halfEdges first size face : List ℕ) (are
 
 -- the lists hold the rings
 pub record Shown (rings : List Ring) (halfEdges first size face : List ℕ) (area : List Float) : Type 0 where
-  pub few : length rings ≤ 2048
-  pub short : (k : ℕ) → k ≤ length rings → passed rings k ≤ 2048
+  pub few : length rings ≤ 2 * limits .edges
+  pub short : (k : ℕ) → k ≤ length rings → passed rings k ≤ 2 * limits .edges
   pub inFirst : length rings ≤ length first
   pub inSize : length rings ≤ length size
   pub inFace : length rings ≤ length face

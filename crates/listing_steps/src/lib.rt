@@ -1,23 +1,38 @@
 // The listing of a graph that was built: the four steps, one after another, and then the text. Each
 // function does one step and hands on what it left; where a step refuses, its line is the listing.
+ghost use mathlib.Core.Path.{_≡_};
 ghost use Prim.Native.Nat.{_≤_};
 ghost use lib.ListN.{length};
 ghost use Rattle.rules.specs.Limits.{limits};
-ghost use Rattle.tables.specs.Tables.{stateOf};
+ghost use Rattle.tables.specs.Regions.{stateIn};
+ghost use Rattle.tables.specs.Refusals.{refusalNumber};
 ghost use Rattle.listing_text.specs.Buffer.{Put};
 ghost use Rattle.listing_steps.specs.Listing.{cutText, prunedText, sortedText, listedText, listingRoom};
+use calls::StepReply;
+use cut_entry::CutReply;
 use lines::printed;
 use lines::put_rings;
-use planar_graph::CutReply;
-use planar_graph::PlanarGraph;
-use planar_graph::PruneReply;
-use planar_graph::RingReply;
-use planar_graph::StepReply;
+use prune_entry::PruneReply;
+use ring_entry::RingReply;
+use tables::MAX_EDGES;
+use tables::MAX_HALF_EDGES;
+use tables::PlanarGraph;
+use tables::Refusal;
+use tables::TARGETS;
 
 mod lines;
 
-// How many bytes the longest listing has at most.
-pub const LISTING_ROOM: usize = 159_890;
+// How many bytes the longest listing has at most: line one, and a line of 78 bytes for each half-edge,
+// since there are no more rings than these, nor more nodes in all of them.
+pub const LISTING_ROOM: usize = 146 + 78 * MAX_HALF_EDGES;
+
+// The number of a refusal, as it is printed.
+fn number_of(why: Refusal) -> u64
+    ensures { λ r. ⌜ r ≡ refusalNumber why ⌝ }
+{
+    let number = tables::refusal_number(why);
+    number as u64
+}
 
 // Cut: the rings are extracted, and line one and their lines are written.
 fn put_cut(
@@ -25,41 +40,29 @@ fn put_cut(
     records: u64,
     dangles: u16,
     cuts: u16,
-    nodes_x: &[f64],
-    nodes_y: &[f64],
-    nodes_z: &[f64],
-    nodes_degree: &[u16],
-    nodes_marked: &[bool],
-    edges_line: &[f64],
-    edges_line_id: &[u32],
-    dir_edges_src: &[u16],
-    dir_edges_dst: &[u16],
-    dir_edges_marked: &[bool],
-    nodes_outgoing: &[u16],
+    floats: &[f64],
+    numbers: &[u16],
+    stars: &[u16],
+    marks: &[bool],
+    ids: &[u32],
     out: &mut [u8],
 ) -> usize
-    requires { ⌜ listingRoom ≤ length (now out) ⌝ }
-    ensures { λ r. ⌜ Put 0 (cutText limits records dangles cuts (stateOf graph (now («nodes_x» .entry)) (now («nodes_y» .entry)) (now («nodes_z» .entry)) (now («nodes_degree» .entry)) (now («nodes_marked» .entry)) (now («edges_line» .entry)) (now («edges_line_id» .entry)) (now («dir_edges_src» .entry)) (now («dir_edges_dst» .entry)) (now («dir_edges_marked» .entry)) (now («nodes_outgoing» .entry)))) (now (out .entry)) (now (out .exit)) r ⌝ }
+    requires { ⌜ listingRoom limits ≤ length (now out) ⌝ }
+    ensures { λ r. ⌜ Put 0 (cutText limits records dangles cuts (stateIn limits graph (now (floats .entry)) (now (numbers .entry)) (now (stars .entry)) (now (marks .entry)) (now (ids .entry)))) (now (out .entry)) (now (out .exit)) r ⌝ }
 {
-    let mut half_edges = [0u16; 2048];
-    let mut ring_first = [0u16; 2048];
-    let mut ring_length = [0u16; 2048];
-    let mut ring_face = [0u16; 2048];
-    let mut ring_side = [0u8; 2048];
-    let mut ring_area = [0.0f64; 2048];
-    let done = planar_graph::extract_rings(
+    let mut half_edges = [0u16; MAX_HALF_EDGES];
+    let mut ring_first = [0u16; MAX_HALF_EDGES];
+    let mut ring_length = [0u16; MAX_HALF_EDGES];
+    let mut ring_face = [0u16; MAX_HALF_EDGES];
+    let mut ring_side = [0u8; MAX_HALF_EDGES];
+    let mut ring_area = [0.0f64; MAX_HALF_EDGES];
+    let done = ring_entry::extract_rings(
         graph,
-        nodes_x,
-        nodes_y,
-        nodes_z,
-        nodes_degree,
-        nodes_marked,
-        edges_line,
-        edges_line_id,
-        dir_edges_src,
-        dir_edges_dst,
-        dir_edges_marked,
-        nodes_outgoing,
+        floats,
+        numbers,
+        stars,
+        marks,
+        ids,
         &mut half_edges,
         &mut ring_first,
         &mut ring_length,
@@ -89,12 +92,10 @@ fn put_cut(
                 &ring_length,
                 &ring_face,
                 &ring_area,
-                dir_edges_src,
+                &numbers[0..TARGETS],
             )
         }
-        RingReply::Refused(why) => {
-            listing_text::put_refusal(out, 0, intake::refusal_number(why), records)
-        }
+        RingReply::Refused(why) => { listing_text::put_refusal(out, 0, number_of(why), records) }
     }
 }
 
@@ -103,36 +104,24 @@ fn put_pruned(
     graph: PlanarGraph,
     records: u64,
     dangles: u16,
-    nodes_x: &[f64],
-    nodes_y: &[f64],
-    nodes_z: &[f64],
-    nodes_degree: &[u16],
-    nodes_marked: &[bool],
-    edges_line: &[f64],
-    edges_line_id: &[u32],
-    dir_edges_src: &[u16],
-    dir_edges_dst: &[u16],
-    dir_edges_marked: &mut [bool],
-    nodes_outgoing: &[u16],
+    floats: &[f64],
+    numbers: &[u16],
+    stars: &[u16],
+    marks: &mut [bool],
+    ids: &[u32],
     out: &mut [u8],
 ) -> usize
-    requires { ⌜ listingRoom ≤ length (now out) ⌝ }
-    ensures { λ r. ⌜ Put 0 (prunedText limits records dangles (stateOf graph (now («nodes_x» .entry)) (now («nodes_y» .entry)) (now («nodes_z» .entry)) (now («nodes_degree» .entry)) (now («nodes_marked» .entry)) (now («edges_line» .entry)) (now («edges_line_id» .entry)) (now («dir_edges_src» .entry)) (now («dir_edges_dst» .entry)) (now («dir_edges_marked» .entry)) (now («nodes_outgoing» .entry)))) (now (out .entry)) (now (out .exit)) r ⌝ }
+    requires { ⌜ listingRoom limits ≤ length (now out) ⌝ }
+    ensures { λ r. ⌜ Put 0 (prunedText limits records dangles (stateIn limits graph (now (floats .entry)) (now (numbers .entry)) (now (stars .entry)) (now (marks .entry)) (now (ids .entry)))) (now (out .entry)) (now (out .exit)) r ⌝ }
 {
-    let mut cut_edges = [0u16; 1024];
-    let done = planar_graph::delete_cut_edges(
+    let mut cut_edges = [0u16; MAX_EDGES];
+    let done = cut_entry::delete_cut_edges(
         graph,
-        nodes_x,
-        nodes_y,
-        nodes_z,
-        nodes_degree,
-        nodes_marked,
-        edges_line,
-        edges_line_id,
-        dir_edges_src,
-        dir_edges_dst,
-        dir_edges_marked,
-        nodes_outgoing,
+        floats,
+        numbers,
+        stars,
+        marks,
+        ids,
         &mut cut_edges,
     );
     let after = done.graph;
@@ -143,22 +132,14 @@ fn put_pruned(
             records,
             dangles,
             cuts,
-            nodes_x,
-            nodes_y,
-            nodes_z,
-            nodes_degree,
-            nodes_marked,
-            edges_line,
-            edges_line_id,
-            dir_edges_src,
-            dir_edges_dst,
-            dir_edges_marked,
-            nodes_outgoing,
+            floats,
+            numbers,
+            stars,
+            marks,
+            ids,
             out,
         ),
-        CutReply::Refused(why) => {
-            listing_text::put_refusal(out, 0, intake::refusal_number(why), records)
-        }
+        CutReply::Refused(why) => { listing_text::put_refusal(out, 0, number_of(why), records) }
     }
 }
 
@@ -166,38 +147,18 @@ fn put_pruned(
 fn put_sorted(
     graph: PlanarGraph,
     records: u64,
-    nodes_x: &[f64],
-    nodes_y: &[f64],
-    nodes_z: &[f64],
-    nodes_degree: &mut [u16],
-    nodes_marked: &mut [bool],
-    edges_line: &[f64],
-    edges_line_id: &[u32],
-    dir_edges_src: &[u16],
-    dir_edges_dst: &[u16],
-    dir_edges_marked: &mut [bool],
-    nodes_outgoing: &[u16],
+    floats: &[f64],
+    numbers: &[u16],
+    stars: &mut [u16],
+    marks: &mut [bool],
+    ids: &[u32],
     out: &mut [u8],
 ) -> usize
-    requires { ⌜ listingRoom ≤ length (now out) ⌝ }
-    ensures { λ r. ⌜ Put 0 (sortedText limits records (stateOf graph (now («nodes_x» .entry)) (now («nodes_y» .entry)) (now («nodes_z» .entry)) (now («nodes_degree» .entry)) (now («nodes_marked» .entry)) (now («edges_line» .entry)) (now («edges_line_id» .entry)) (now («dir_edges_src» .entry)) (now («dir_edges_dst» .entry)) (now («dir_edges_marked» .entry)) (now («nodes_outgoing» .entry)))) (now (out .entry)) (now (out .exit)) r ⌝ }
+    requires { ⌜ listingRoom limits ≤ length (now out) ⌝ }
+    ensures { λ r. ⌜ Put 0 (sortedText limits records (stateIn limits graph (now (floats .entry)) (now (numbers .entry)) (now (stars .entry)) (now (marks .entry)) (now (ids .entry)))) (now (out .entry)) (now (out .exit)) r ⌝ }
 {
-    let mut dangles = [0u16; 1024];
-    let done = planar_graph::prune_dangles(
-        graph,
-        nodes_x,
-        nodes_y,
-        nodes_z,
-        nodes_degree,
-        nodes_marked,
-        edges_line,
-        edges_line_id,
-        dir_edges_src,
-        dir_edges_dst,
-        dir_edges_marked,
-        nodes_outgoing,
-        &mut dangles,
-    );
+    let mut dangles = [0u16; MAX_EDGES];
+    let done = prune_entry::prune_dangles(graph, floats, numbers, stars, marks, ids, &mut dangles);
     let after = done.graph;
     let reply = done.reply;
     match reply {
@@ -205,22 +166,14 @@ fn put_sorted(
             after,
             records,
             count,
-            nodes_x,
-            nodes_y,
-            nodes_z,
-            nodes_degree,
-            nodes_marked,
-            edges_line,
-            edges_line_id,
-            dir_edges_src,
-            dir_edges_dst,
-            dir_edges_marked,
-            nodes_outgoing,
+            floats,
+            numbers,
+            stars,
+            marks,
+            ids,
             out,
         ),
-        PruneReply::Refused(why) => {
-            listing_text::put_refusal(out, 0, intake::refusal_number(why), records)
-        }
+        PruneReply::Refused(why) => { listing_text::put_refusal(out, 0, number_of(why), records) }
     }
 }
 
@@ -229,57 +182,21 @@ fn put_sorted(
 pub fn put_listing(
     graph: PlanarGraph,
     records: u64,
-    nodes_x: &[f64],
-    nodes_y: &[f64],
-    nodes_z: &[f64],
-    nodes_degree: &mut [u16],
-    nodes_marked: &mut [bool],
-    edges_line: &[f64],
-    edges_line_id: &[u32],
-    dir_edges_src: &[u16],
-    dir_edges_dst: &[u16],
-    dir_edges_marked: &mut [bool],
-    nodes_outgoing: &mut [u16],
+    floats: &[f64],
+    numbers: &[u16],
+    stars: &mut [u16],
+    marks: &mut [bool],
+    ids: &[u32],
     out: &mut [u8],
 ) -> usize
-    requires { ⌜ listingRoom ≤ length (now out) ⌝ }
-    ensures { λ r. ⌜ Put 0 (listedText limits records (stateOf graph (now («nodes_x» .entry)) (now («nodes_y» .entry)) (now («nodes_z» .entry)) (now («nodes_degree» .entry)) (now («nodes_marked» .entry)) (now («edges_line» .entry)) (now («edges_line_id» .entry)) (now («dir_edges_src» .entry)) (now («dir_edges_dst» .entry)) (now («dir_edges_marked» .entry)) (now («nodes_outgoing» .entry)))) (now (out .entry)) (now (out .exit)) r ⌝ }
+    requires { ⌜ listingRoom limits ≤ length (now out) ⌝ }
+    ensures { λ r. ⌜ Put 0 (listedText limits records (stateIn limits graph (now (floats .entry)) (now (numbers .entry)) (now (stars .entry)) (now (marks .entry)) (now (ids .entry)))) (now (out .entry)) (now (out .exit)) r ⌝ }
 {
-    let done = planar_graph::sort_edges(
-        graph,
-        nodes_x,
-        nodes_y,
-        nodes_z,
-        nodes_degree,
-        nodes_marked,
-        edges_line,
-        edges_line_id,
-        dir_edges_src,
-        dir_edges_dst,
-        dir_edges_marked,
-        nodes_outgoing,
-    );
+    let done = sort_entry::sort_edges(graph, floats, numbers, stars, marks, ids);
     let after = done.graph;
     let reply = done.reply;
     match reply {
-        StepReply::Done => put_sorted(
-            after,
-            records,
-            nodes_x,
-            nodes_y,
-            nodes_z,
-            nodes_degree,
-            nodes_marked,
-            edges_line,
-            edges_line_id,
-            dir_edges_src,
-            dir_edges_dst,
-            dir_edges_marked,
-            nodes_outgoing,
-            out,
-        ),
-        StepReply::Refused(why) => {
-            listing_text::put_refusal(out, 0, intake::refusal_number(why), records)
-        }
+        StepReply::Done => put_sorted(after, records, floats, numbers, stars, marks, ids, out),
+        StepReply::Refused(why) => { listing_text::put_refusal(out, 0, number_of(why), records) }
     }
 }

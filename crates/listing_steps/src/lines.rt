@@ -1,13 +1,14 @@
 // The lines of the rings, from the lists that ring extraction wrote.
 ghost use mathlib.Core.Path.{_≡_};
 ghost use mathlib.Core.List.{List};
-ghost use Prim.Native.Nat.{_+_, _*_, _<_, _≤_};
+ghost use Prim.Native.Nat.{_+_, _<_, _≤_};
 ghost use lib.IntN.{ℤ};
 ghost use lib.ListN.{length, getD};
 ghost use Rattle.rules.specs.Face.{Ring};
+ghost use Rattle.rules.specs.Limits.{limits};
 ghost use Rattle.listing_text.specs.Buffer.{Put};
 ghost use Rattle.listing_text.specs.Lines.{ringRoom};
-ghost use Rattle.listing_steps.specs.Listing.{lineOf, linesOf};
+ghost use Rattle.listing_steps.specs.Listing.{lineOf, linesOf, linesRoom};
 ghost use Rattle.listing_steps.specs.Shown.{HalfOf, Shown};
 use tables::FaceId;
 
@@ -72,7 +73,7 @@ pub fn put_rings(
     ring_area: &[f64],
     dir_edges_src: &[u16],
 ) -> usize
-    requires { ⌜ ((rings : List Ring) × Shown rings (now «half_edges») (now «ring_first») (now «ring_length») (now «ring_face») (now «ring_area») × (count ≡ length rings) × (at + 78 * 2048 ≤ length (now out))) ⌝ }
+    requires { ⌜ ((rings : List Ring) × Shown rings (now «half_edges») (now «ring_first») (now «ring_length») (now «ring_face») (now «ring_area») × (count ≡ length rings) × (at + linesRoom limits ≤ length (now out))) ⌝ }
     ensures { λ r. ⌜ ((rings : List Ring) → Shown rings (now («half_edges» .entry)) (now («ring_first» .entry)) (now («ring_length» .entry)) (now («ring_face» .entry)) (now («ring_area» .entry)) → count ≡ length rings
         → Put at (linesOf (now («dir_edges_src» .entry)) rings count) (now (out .entry)) (now (out .exit)) r) ⌝ }
 {

@@ -1,3 +1,2 @@
 -- Laws of the chains of nodes and half-edges.
 pub mod Coding
-pub mod Growing

@@ -16,7 +16,7 @@ use Rattle.rules.proofs.Replies.{demand-passed}
 use Rattle.rules.proofs.Histories.{demand-3, demand-3-sound}
 use Rattle.rules.proofs.NamingSteps.{replied-few}
 use Rattle.rules.specs.Naming.{FewComparisons}
-use Rattle.planar_graph.specs.Clauses.{Creates}
+use Rattle.create_entry.specs.Clause.{Creates}
 use Rattle.planar_graph.specs.Runs as runs
 use Rattle.planar_graph.specs.Runs.{Step, after, Meets, Run, ends, feedStep, sketchFrom, Demand3, Demand3Sound, NamingIsShort}
 

@@ -14,7 +14,13 @@ use Rattle.rules.specs.Ringing.{RingLists, Ringing}
 use Rattle.rules.specs.Sketch.{Sketch, pointAt, sketched, feed, adding, sorting, pruning, cutting, ringing, resetting}
 use Rattle.rules.specs.Claim.{isRefused, emptySketch, ringsFrom, RingRules, SideRules, TableRules, Given64}
 use Rattle.rules.specs.Naming.{FewComparisons}
-use Rattle.planar_graph.specs.Clauses.{Creates, Adds, Sorts, Prunes, Cuts, Extracts, Resets}
+use Rattle.create_entry.specs.Clause.{Creates}
+use Rattle.add_entry.specs.Clause.{Adds}
+use Rattle.sort_entry.specs.Clause.{Sorts}
+use Rattle.prune_entry.specs.Clause.{Prunes}
+use Rattle.cut_entry.specs.Clause.{Cuts}
+use Rattle.ring_entry.specs.Clause.{Extracts}
+use Rattle.reset_entry.specs.Clause.{Resets}
 
 -- a call of a run, with what came out of it
 pub data Step : Type 0 where

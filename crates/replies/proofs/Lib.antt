@@ -1,6 +1,4 @@
--- numbers written over the front of a list
-pub mod Writing
--- what an answer leaves
+-- what an answer writes
 pub mod Replying
--- numbers of refusals
-pub mod Refusals
+-- from a public entry to the station's
+pub mod Handing

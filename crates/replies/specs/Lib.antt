@@ -1,3 +1,4 @@
--- The small state and the values of a reply in lent slices. Read in this order.
+-- What is lent beside the tables, the values of each reply, and what a call leaves. Read in this order.
 pub mod Lent
 pub mod Values
+pub mod Left

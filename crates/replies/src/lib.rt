@@ -1,18 +1,23 @@
-// What a public entry answers, for a caller that hands over numbers and slices: the small state and
-// the values of a reply in lent slices, and the number of a refusal.
-mod answers;
+// What a public entry answers, for a caller that hands over numbers: the small state and the values of
+// a reply in lent arrays of exactly their size, so that none can be too short, and the number of a
+// refusal.
+mod building;
+mod files;
+mod rings;
 mod small;
+mod steps;
 
-pub use answers::answer_added;
-pub use answers::answer_created;
-pub use answers::answer_cutting;
-pub use answers::answer_pruned;
-pub use answers::answer_records;
-pub use answers::answer_rings;
-pub use answers::answer_step;
+pub use building::answer_added;
+pub use building::answer_created;
+pub use files::answer_records;
+pub use rings::answer_rings;
+pub use small::ADDED_LENGTH;
 pub use small::CENSUS_LENGTH;
-pub use small::REPLY_TOO_SHORT;
+pub use small::COUNT_LENGTH;
+pub use small::FILE_LENGTH;
 pub use small::RINGS_LENGTH;
 pub use small::STATE_LENGTH;
-pub use small::STATE_TOO_SHORT;
 pub use small::read_state;
+pub use steps::answer_cutting;
+pub use steps::answer_pruned;
+pub use steps::answer_step;

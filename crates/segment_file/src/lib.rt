@@ -5,7 +5,7 @@ ghost use Prim.Native.Nat.{_+_, _≤_, _<_};
 ghost use lib.ListN.{length};
 ghost use lib.Ieee.{binary64, ofBits};
 ghost use Rattle.rules.specs.SegmentFile.{field, coordAt, readAt};
-ghost use Rattle.segment_file.specs.Record.{readOf};
+ghost use Rattle.segment_file.specs.Record.{numberOf, readOf};
 use geometry::Coord3D;
 use geometry::Line3D;
 
@@ -22,6 +22,17 @@ pub enum FileRefusal {
     Short,
     Length,
     Kind,
+}
+
+// Document 01's number of a record's refusal.
+pub fn file_number(why: FileRefusal) -> u32
+    ensures { λ r. ⌜ r ≡ numberOf why ⌝ }
+{
+    match why {
+        FileRefusal::Short => 9,
+        FileRefusal::Length => 10,
+        FileRefusal::Kind => 11,
+    }
 }
 
 // What a place of the file holds. A segment comes with the place of the next record.

@@ -1,16 +1,30 @@
-// The small state of the graph, its numbers, and the limits of its tables.
+// The small state of the graph, its numbers, the limits of its tables, and where these lie.
 ghost use mathlib.Core.Path.{_≡_};
 ghost use mathlib.Core.Bool.{true};
 ghost use Prim.Native.Nat.{_<_};
 ghost use lib.ListN.{length, getD};
+ghost use Rattle.tables.specs.Refusals.{refusalNumber};
 
+mod layout;
 mod reset;
-mod room;
 mod sound;
 mod starts;
 
-pub use crate::reset::reset_tables;
-pub use crate::room::has_room;
+pub use crate::layout::DEGREES;
+pub use crate::layout::FLOATS;
+pub use crate::layout::HALF_MARKS;
+pub use crate::layout::IDS;
+pub use crate::layout::MARKS;
+pub use crate::layout::MAX_HALF_EDGES;
+pub use crate::layout::NODES_Y;
+pub use crate::layout::NODES_Z;
+pub use crate::layout::NUMBERS;
+pub use crate::layout::SEGMENTS;
+pub use crate::layout::STAR_OFFSETS;
+pub use crate::layout::STARS;
+pub use crate::layout::TARGETS;
+pub use crate::reset::clear_marks;
+pub use crate::reset::write_degrees;
 pub use crate::sound::is_sound;
 pub use crate::starts::count_starts;
 
@@ -41,6 +55,22 @@ pub enum Refusal {
     TableTooShort,
     Unsound,
     ListTooShort,
+}
+
+// Document 01's number of a refusal.
+pub fn refusal_number(why: Refusal) -> u32
+    ensures { λ r. ⌜ r ≡ refusalNumber why ⌝ }
+{
+    match why {
+        Refusal::NotWhole => 1,
+        Refusal::SameNode => 2,
+        Refusal::TooManyNodes => 3,
+        Refusal::TooManyEdges => 4,
+        Refusal::WrongStage => 5,
+        Refusal::TableTooShort => 6,
+        Refusal::Unsound => 7,
+        Refusal::ListTooShort => 8,
+    }
 }
 
 // How many nodes and edges the tables hold at most.

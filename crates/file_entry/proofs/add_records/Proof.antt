@@ -1,61 +1,46 @@
 -- `add_records` meets its contract: where numbers 6, 7 and 5 pass, `take_file` takes the file.
-use mathlib.Core.Path.{_≡_, sym, _∙_}
+use mathlib.Core.Path.{_≡_, refl, sym, _∙_}
 use Rattle.rules.specs.Limits.{limits}
 use Rattle.rules.specs.State.{State}
-use Rattle.tables.specs.Tables.{stateOf}
-use Rattle.planar_graph.proofs.Shells.{Good, stage-passed}
+use Rattle.tables.specs.Regions.{stateIn}
+use Rattle.calls.proofs.Shells.{Good, stage-passed}
 use Rattle.file_entry.proofs.Shell.{records-stop, records-pass}
 use borrow.Author.Needs.{needs}
 use Rattle.file_entry.proofs.add_records.Statement.{statement}
 use Rattle.file_entry.proofs.add_records.Tie as tie
 
-check-stage-requires : tie.Need-check-stage-requires
-check-stage-requires c κs = search needs
-
--- the state that the tables hold
+-- the state that the slices hold
 abbrev held : tie.Start → State
-held k = stateOf (k .args .graph) (k .args .nodes-x .now) (k .args .nodes-y .now) (k .args .nodes-z .now) (k .args .nodes-degree .now) (k .args .nodes-marked .now)
-    (k .args .edges-line .now) (k .args .edges-line-id .now) (k .args .dir-edges-src .now) (k .args .dir-edges-dst .now) (k .args .dir-edges-marked .now) (k .args .nodes-outgoing .now)
+held k = stateIn limits (k .args .graph) (k .args .floats .now) (k .args .numbers .now) (k .args .stars .now) (k .args .marks .now) (k .args .ids .now)
 
 -- the entry, from the place where the tests were made
 abbrev entry : tie.After-check-stage → tie.Start
-entry c = c .before .before .before .before .before .before .before .before .before .before .before .before .before .before .before .before .before .before .before .before .before .before .before .before
+entry c = c .before .before .before .before .before .before .before .before .before .before .before .before
+
+-- the place where the file was taken, from the one where the slices are back
+abbrev taken : tie.After-slice-known10 → tie.After-take-file
+taken c = c .before .before .before .before .before .before .before .before .before .before
+
+check-stage-requires : tie.Need-check-stage-requires
+check-stage-requires c κs = search needs
 
 enum-known-checked : tie.Need-enum-known-checked
 enum-known-checked c = search needs
 
 same-length : tie.Need-same-length
-same-length c = search needs
+same-length c = refl
 
 same-length-2 : tie.Need-same-length-2
-same-length-2 c = search needs
+same-length-2 c = refl
 
 same-length-3 : tie.Need-same-length-3
-same-length-3 c = search needs
+same-length-3 c = refl
 
 same-length-4 : tie.Need-same-length-4
-same-length-4 c = search needs
+same-length-4 c = refl
 
 same-length-5 : tie.Need-same-length-5
-same-length-5 c = search needs
-
-same-length-6 : tie.Need-same-length-6
-same-length-6 c = search needs
-
-same-length-7 : tie.Need-same-length-7
-same-length-7 c = search needs
-
-same-length-8 : tie.Need-same-length-8
-same-length-8 c = search needs
-
-same-length-9 : tie.Need-same-length-9
-same-length-9 c = search needs
-
-same-length-10 : tie.Need-same-length-10
-same-length-10 c = search needs
-
-same-length-11 : tie.Need-same-length-11
-same-length-11 c = search needs
+same-length-5 c = refl
 
 returns : tie.Need-returns
 returns c =
@@ -71,48 +56,30 @@ good c = stage-passed limits 0 (held (entry (c .before .before))) (sym (c .enum-
 
 take-file-requires : tie.Need-take-file-requires
 take-file-requires c κs =
-    let g = good (c .before .before .before .before .before .before .before .before .before .before .before) in
+    let g = good (c .before .before .before .before .before) in
     record { room = g .0 .room; sense = g .0 .sense; stage = g .1 }
 
-same-length-12 : tie.Need-same-length-12
-same-length-12 c = search needs
+same-length-6 : tie.Need-same-length-6
+same-length-6 c = taken c .take-file .kept .1 .1 .0
 
-same-length-13 : tie.Need-same-length-13
-same-length-13 c = search needs
+same-length-7 : tie.Need-same-length-7
+same-length-7 c = taken c .take-file .kept .1 .1 .1 .0
 
-same-length-14 : tie.Need-same-length-14
-same-length-14 c = search needs
+same-length-8 : tie.Need-same-length-8
+same-length-8 c = taken c .take-file .kept .1 .1 .1 .1 .0
 
-same-length-15 : tie.Need-same-length-15
-same-length-15 c = search needs
+same-length-9 : tie.Need-same-length-9
+same-length-9 c = taken c .take-file .kept .1 .1 .1 .1 .1 .0
 
-same-length-16 : tie.Need-same-length-16
-same-length-16 c = search needs
-
-same-length-17 : tie.Need-same-length-17
-same-length-17 c = search needs
-
-same-length-18 : tie.Need-same-length-18
-same-length-18 c = search needs
-
-same-length-19 : tie.Need-same-length-19
-same-length-19 c = search needs
-
-same-length-20 : tie.Need-same-length-20
-same-length-20 c = search needs
-
-same-length-21 : tie.Need-same-length-21
-same-length-21 c = search needs
-
-same-length-22 : tie.Need-same-length-22
-same-length-22 c = search needs
+same-length-10 : tie.Need-same-length-10
+same-length-10 c = taken c .take-file .kept .1 .1 .1 .1 .1 .1 .0
 
 returns-2 : tie.Need-returns-2
 returns-2 c =
-    let d = c .before .before .before .before .before .before .before .before .before .before .before .before .before .before .before .before .before .before .before .before .before .before .before .before .before .before .before .before .before .before .before .before .before .before in
+    let d = taken c .before .before .before .before .before .before in
     let k = entry (d .before .before) in
     let g = good d in
-    c .before .before .before .before .before .before .before .before .before .before .before .before .before .before .before .before .before .before .before .before .before .before .take-file .ensures ∙ records-pass limits (k .args .bytes .now) (held k) (g .0) (g .1)
+    taken c .take-file .ensures ∙ records-pass limits (k .args .bytes .now) (held k) (g .0) (g .1)
 
 pub add-records-spec : {M : Type 1} → statement M
 add-records-spec =
@@ -125,24 +92,12 @@ add-records-spec =
     same-length-3
     same-length-4
     same-length-5
+    returns
+    enum-told
+    take-file-requires
     same-length-6
     same-length-7
     same-length-8
     same-length-9
     same-length-10
-    same-length-11
-    returns
-    enum-told
-    take-file-requires
-    same-length-12
-    same-length-13
-    same-length-14
-    same-length-15
-    same-length-16
-    same-length-17
-    same-length-18
-    same-length-19
-    same-length-20
-    same-length-21
-    same-length-22
     returns-2)

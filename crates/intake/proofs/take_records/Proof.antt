@@ -1,11 +1,27 @@
 -- `take_records` meets its contract: the graph is chained, and then its records are taken.
-use Rattle.lookup.proofs.Growing.{zeros, zeros-long, still-long}
+use Prim.Native.Nat.{ℕ, _+_, _*_}
 use native.Mathlib.Omega.{arith}
-use Rattle.tables.specs.Tables.{stateOf}
-use Rattle.adding.proofs.Carrying.{searchable}
+use Rattle.rules.specs.Limits.{limits}
+use Rattle.making.proofs.Searching.{searchable-in}
+use Rattle.lookup.specs.Codes.{nodeHeads, halfHeads}
+use Rattle.indexing.proofs.Growing.{zeros, zeros-long, still-long}
 use borrow.Author.Needs.{needs}
 use Rattle.intake.proofs.take_records.Statement.{statement}
 use Rattle.intake.proofs.take_records.Tie as tie
+
+-- how many entries the tables of chains have
+abbrev nodeEntries : ℕ
+nodeEntries = nodeHeads + limits .nodes
+
+abbrev halfEntries : ℕ
+halfEntries = halfHeads + 2 * limits .edges
+
+-- the entry, from the place where the graph was chained, and the place where the records were taken, from the one where all is back
+abbrev entry : tie.After-chain-all → tie.Start
+entry c = c .before .before .before .before .before .before .before .before .before .before .before .before
+
+abbrev taken : tie.After-half-chains4 → tie.After-take-chained
+taken c = c .before .before .before .before .before .before .before .before .before .before .before .before
 
 slice-aggregate-chain-all : tie.Need-slice-aggregate-chain-all
 slice-aggregate-chain-all c = search needs
@@ -15,8 +31,11 @@ slice-aggregate-chain-all-2 c = search needs
 
 chain-all-requires : tie.Need-chain-all-requires
 chain-all-requires c κs =
-    let a = c .before .before .before .before .before .before .before .before .before .before .before .before .before .before .before .before .before .before .before .args in
-    (searchable (stateOf (a .graph) (a .nodes-x .now) (a .nodes-y .now) (a .nodes-z .now) (a .nodes-degree .now) (a .nodes-marked .now) (a .edges-line .now) (a .edges-line-id .now) (a .dir-edges-src .now) (a .dir-edges-dst .now) (a .dir-edges-marked .now) (a .nodes-outgoing .now)) (c .before .before .before .before .before .before .before .before .before .before .before .before .before .before .before .before .before .before .before .pre), ((zeros 3072, zeros-long 3072 3072 (omega arith)), (zeros 6144, zeros-long 6144 6144 (omega arith))))
+    let k = c .before .before .before .before .before .before .before .before .before .before .before in
+    let a = k .args in (
+      searchable-in (a .graph) (a .floats .now) (a .numbers .now) (a .stars .now) (a .marks .now) (a .ids .now) (k .pre),
+      ((zeros nodeEntries, zeros-long nodeEntries nodeEntries (omega arith)), (zeros halfEntries, zeros-long halfEntries halfEntries (omega arith))),
+    )
 
 slice-aggregate-take-chained : tie.Need-slice-aggregate-take-chained
 slice-aggregate-take-chained c = search needs
@@ -26,45 +45,34 @@ slice-aggregate-take-chained-2 c = search needs
 
 take-chained-requires : tie.Need-take-chained-requires
 take-chained-requires c κs =
-    let a = c .before .before .before .before .before .before .before .before .before .before .before .before .before .before .before .before .before .before .before .before .before .before .before .before .before .before .before .before .before .before .before .before .before .before .before .args in
-    let k = c .before .before .before .before .before .before .before .before .before .before .before .before .before .before .before .chain-all in
-    (c .before .before .before .before .before .before .before .before .before .before .before .before .before .before .before .before .before .before .before .before .before .before .before .before .before .before .before .before .before .before .before .before .before .before .before .pre, record { nodes = k .ensures .0 .chained; halves = k .ensures .1 .chained; nodeRoom = still-long 3072 3072 (k .last .1 .1 .1 .1 .1 .1 .0) (k .kept .1 .1 .1 .1 .1 .1 .0) (omega arith); halfRoom = still-long 6144 6144 (k .last .1 .1 .1 .1 .1 .1 .1 .0) (k .kept .1 .1 .1 .1 .1 .1 .1 .0) (omega arith) })
+    let d = c .before .before .before .before .before .before .before .before .before in
+    let m = d .chain-all in (
+      entry d .pre,
+      record {
+        nodes = m .ensures .0 .chained;
+        halves = m .ensures .1 .chained;
+        nodeRoom = still-long nodeEntries nodeEntries (m .last .1 .1 .1 .1 .0) (m .kept .1 .1 .1 .1 .0) (omega arith);
+        halfRoom = still-long halfEntries halfEntries (m .last .1 .1 .1 .1 .1 .0) (m .kept .1 .1 .1 .1 .1 .0) (omega arith);
+      },
+    )
 
 same-length : tie.Need-same-length
-same-length c = search needs
+same-length c = taken c .take-chained .kept .1 .1 .0
 
 same-length-2 : tie.Need-same-length-2
-same-length-2 c = c .before .before .before .before .before .before .before .before .before .before .before .before .before .before .before .before .before .before .before .before .before .before .before .before .take-chained .kept .1 .1 .1 .0
+same-length-2 c = taken c .take-chained .kept .1 .1 .1 .0
 
 same-length-3 : tie.Need-same-length-3
-same-length-3 c = c .before .before .before .before .before .before .before .before .before .before .before .before .before .before .before .before .before .before .before .before .before .before .before .before .take-chained .kept .1 .1 .1 .1 .0
+same-length-3 c = taken c .take-chained .kept .1 .1 .1 .1 .0
 
 same-length-4 : tie.Need-same-length-4
-same-length-4 c = c .before .before .before .before .before .before .before .before .before .before .before .before .before .before .before .before .before .before .before .before .before .before .before .before .take-chained .kept .1 .1 .1 .1 .1 .0
+same-length-4 c = taken c .take-chained .kept .1 .1 .1 .1 .1 .0
 
 same-length-5 : tie.Need-same-length-5
-same-length-5 c = search needs
-
-same-length-6 : tie.Need-same-length-6
-same-length-6 c = search needs
-
-same-length-7 : tie.Need-same-length-7
-same-length-7 c = search needs
-
-same-length-8 : tie.Need-same-length-8
-same-length-8 c = search needs
-
-same-length-9 : tie.Need-same-length-9
-same-length-9 c = search needs
-
-same-length-10 : tie.Need-same-length-10
-same-length-10 c = search needs
-
-same-length-11 : tie.Need-same-length-11
-same-length-11 c = search needs
+same-length-5 c = taken c .take-chained .kept .1 .1 .1 .1 .1 .1 .0
 
 returns : tie.Need-returns
-returns c = search needs
+returns c = taken c .take-chained .ensures
 
 pub take-records-spec : {M : Type 1} → statement M
 take-records-spec =
@@ -81,10 +89,4 @@ take-records-spec =
     same-length-3
     same-length-4
     same-length-5
-    same-length-6
-    same-length-7
-    same-length-8
-    same-length-9
-    same-length-10
-    same-length-11
     returns)

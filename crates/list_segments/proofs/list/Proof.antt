@@ -1,18 +1,22 @@
--- `list` is safe and ends: the graph that is created over its tables can be added to.
+-- `list` is safe and ends: the graph that is created over its slices can be added to.
 use mathlib.Core.Path.{ap, subst}
 use mathlib.Core.Bool.{false}
 use lib.ListN.{replicate}
 use lib.Ieee.{binary64, ofBits}
 use Rattle.rules.specs.Limits.{limits}
 use Rattle.rules.specs.State.{State}
-use Rattle.tables.specs.Tables.{stateOf}
+use Rattle.tables.specs.Regions.{stateIn, leastFloats, leastNumbers, leastStars, leastMarks, leastIds}
 use Rattle.tables.specs.declared.PlanarGraph.{PlanarGraph}
 use Rattle.adding.specs.Outcomes.{Ready}
-use Rattle.planar_graph.specs.Replies.{createdReply, createdGraph}
+use Rattle.create_entry.specs.Replies.{createdReply, createdGraph}
 use Rattle.list_segments.proofs.Creating.{creates-ready}
 use borrow.Author.Needs.{needs}
 use Rattle.list_segments.proofs.list.Statement.{statement}
 use Rattle.list_segments.proofs.list.Tie as tie
+
+-- the state before anything is read
+abbrev blank : PlanarGraph → State
+blank g = stateIn limits g (replicate (leastFloats limits) (ofBits binary64 0)) (replicate (leastNumbers limits) 0) (replicate (leastStars limits) 0) (replicate (leastMarks limits) false) (replicate (leastIds limits) 0)
 
 slice-aggregate-create : tie.Need-slice-aggregate-create
 slice-aggregate-create c = search needs
@@ -28,24 +32,6 @@ slice-aggregate-create-4 c = search needs
 
 slice-aggregate-create-5 : tie.Need-slice-aggregate-create-5
 slice-aggregate-create-5 c = search needs
-
-slice-aggregate-create-6 : tie.Need-slice-aggregate-create-6
-slice-aggregate-create-6 c = search needs
-
-slice-aggregate-create-7 : tie.Need-slice-aggregate-create-7
-slice-aggregate-create-7 c = search needs
-
-slice-aggregate-create-8 : tie.Need-slice-aggregate-create-8
-slice-aggregate-create-8 c = search needs
-
-slice-aggregate-create-9 : tie.Need-slice-aggregate-create-9
-slice-aggregate-create-9 c = search needs
-
-slice-aggregate-create-10 : tie.Need-slice-aggregate-create-10
-slice-aggregate-create-10 c = search needs
-
-slice-aggregate-create-11 : tie.Need-slice-aggregate-create-11
-slice-aggregate-create-11 c = search needs
 
 create-requires : tie.Need-create-requires
 create-requires c κs = search needs
@@ -74,36 +60,13 @@ slice-aggregate-read-segments-4 c = search needs
 slice-aggregate-read-segments-5 : tie.Need-slice-aggregate-read-segments-5
 slice-aggregate-read-segments-5 c = search needs
 
-slice-aggregate-read-segments-6 : tie.Need-slice-aggregate-read-segments-6
-slice-aggregate-read-segments-6 c = search needs
-
-slice-aggregate-read-segments-7 : tie.Need-slice-aggregate-read-segments-7
-slice-aggregate-read-segments-7 c = search needs
-
-slice-aggregate-read-segments-8 : tie.Need-slice-aggregate-read-segments-8
-slice-aggregate-read-segments-8 c = search needs
-
-slice-aggregate-read-segments-9 : tie.Need-slice-aggregate-read-segments-9
-slice-aggregate-read-segments-9 c = search needs
-
-slice-aggregate-read-segments-10 : tie.Need-slice-aggregate-read-segments-10
-slice-aggregate-read-segments-10 c = search needs
-
-slice-aggregate-read-segments-11 : tie.Need-slice-aggregate-read-segments-11
-slice-aggregate-read-segments-11 c = search needs
-
--- the tables before anything is read
-abbrev blank : PlanarGraph → State
-blank g = stateOf g (replicate 1024 (ofBits binary64 0)) (replicate 1024 (ofBits binary64 0)) (replicate 1024 (ofBits binary64 0)) (replicate 1024 0) (replicate 1024 false)
-    (replicate 6144 (ofBits binary64 0)) (replicate 1024 0) (replicate 2048 0) (replicate 2048 0) (replicate 2048 false) (replicate 2048 0)
-
 read-segments-requires : tie.Need-read-segments-requires
 read-segments-requires c κs =
-    let x = c .before .before .before .before .before .before .before .before .before .before .before .before .before .before .create in
-    let g = c .before .before .before .before .before .before .before .before .before .before .before .before .created .given .0 .0 in
-    let made = c .before .before .before .before .before .before .before .before .before .before .before .before .created .given .1 in
-    subst (λ y. Ready limits (blank y)) (ap (createdGraph g) made)
-    (creates-ready (blank g) (blank (createdGraph g (x .result))) (createdReply (x .result)) _ (x .ensures g) (ap createdReply made))
+    let x = c .before .before .before .before .before .before .before .before .create in
+    let told = c .before .before .before .before .before .before .created in
+    let g = told .given .0 .0 in
+    subst (λ y. Ready limits (blank y)) (ap (createdGraph g) (told .given .1))
+    (creates-ready (blank g) (blank (createdGraph g (x .result))) (createdReply (x .result)) _ (x .ensures g) (ap createdReply (told .given .1)))
 
 slice-aggregate-print-read : tie.Need-slice-aggregate-print-read
 slice-aggregate-print-read c = search needs
@@ -120,24 +83,6 @@ slice-aggregate-print-read-4 c = search needs
 slice-aggregate-print-read-5 : tie.Need-slice-aggregate-print-read-5
 slice-aggregate-print-read-5 c = search needs
 
-slice-aggregate-print-read-6 : tie.Need-slice-aggregate-print-read-6
-slice-aggregate-print-read-6 c = search needs
-
-slice-aggregate-print-read-7 : tie.Need-slice-aggregate-print-read-7
-slice-aggregate-print-read-7 c = search needs
-
-slice-aggregate-print-read-8 : tie.Need-slice-aggregate-print-read-8
-slice-aggregate-print-read-8 c = search needs
-
-slice-aggregate-print-read-9 : tie.Need-slice-aggregate-print-read-9
-slice-aggregate-print-read-9 c = search needs
-
-slice-aggregate-print-read-10 : tie.Need-slice-aggregate-print-read-10
-slice-aggregate-print-read-10 c = search needs
-
-slice-aggregate-print-read-11 : tie.Need-slice-aggregate-print-read-11
-slice-aggregate-print-read-11 c = search needs
-
 print-read-requires : tie.Need-print-read-requires
 print-read-requires c κs = search needs
 
@@ -153,12 +98,6 @@ list-spec =
     slice-aggregate-create-3
     slice-aggregate-create-4
     slice-aggregate-create-5
-    slice-aggregate-create-6
-    slice-aggregate-create-7
-    slice-aggregate-create-8
-    slice-aggregate-create-9
-    slice-aggregate-create-10
-    slice-aggregate-create-11
     create-requires
     enum-known-created
     enum-told
@@ -168,23 +107,11 @@ list-spec =
     slice-aggregate-read-segments-3
     slice-aggregate-read-segments-4
     slice-aggregate-read-segments-5
-    slice-aggregate-read-segments-6
-    slice-aggregate-read-segments-7
-    slice-aggregate-read-segments-8
-    slice-aggregate-read-segments-9
-    slice-aggregate-read-segments-10
-    slice-aggregate-read-segments-11
     read-segments-requires
     slice-aggregate-print-read
     slice-aggregate-print-read-2
     slice-aggregate-print-read-3
     slice-aggregate-print-read-4
     slice-aggregate-print-read-5
-    slice-aggregate-print-read-6
-    slice-aggregate-print-read-7
-    slice-aggregate-print-read-8
-    slice-aggregate-print-read-9
-    slice-aggregate-print-read-10
-    slice-aggregate-print-read-11
     print-read-requires
     returns-2)

@@ -14,19 +14,13 @@ slice-aggregate-write-text : tie.Need-slice-aggregate-write-text
 slice-aggregate-write-text c = search needs
 
 write-text-requires : tie.Need-write-text-requires
-write-text-requires c κs = let t = c .before .before .before .before .before .before .before .before .before .before .put-listing in put-within _ _ (t .last .1 .1 .1 .1 .1 .1 .1 .1 .1 .1 .1 .1 .1 .0) (t .result) (t .ensures)
+write-text-requires c κs = let t = c .before .before .before .before .before .before .put-listing in put-within _ _ (t .last .1 .1 .1 .1 .1 .1 .1 .0) (t .result) (t .ensures)
 
 same-length : tie.Need-same-length
 same-length c = search needs
 
 same-length-2 : tie.Need-same-length-2
 same-length-2 c = search needs
-
-same-length-3 : tie.Need-same-length-3
-same-length-3 c = search needs
-
-same-length-4 : tie.Need-same-length-4
-same-length-4 c = search needs
 
 returns : tie.Need-returns
 returns c = search needs
@@ -41,6 +35,4 @@ print-listing-spec =
     write-text-requires
     same-length
     same-length-2
-    same-length-3
-    same-length-4
     returns)

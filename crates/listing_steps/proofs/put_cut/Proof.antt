@@ -1,28 +1,40 @@
 -- `put_cut` meets its contract: the answer of ring extraction decides; line one and then the lines of the rings that the lists hold.
 use Prim.Native.Nat.{_+_, _*_, _≤_}
-use mathlib.Core.Path.{ap, subst, _∙_}
+use mathlib.Core.Path.{_≡_, ap, subst, _∙_}
 use mathlib.Core.List.{_++_}
 use native.Mathlib.Omega.{arith}
 use lib.ListN.{length}
 use lib.Ieee.{ofBits}
+use Rattle.geometry.specs.Reply.{success}
+use Rattle.rules.specs.Limits.{limits}
 use Rattle.rules.specs.State.{State}
-use Rattle.rules.specs.Ringing.{ringsOf}
-use Rattle.tables.specs.Tables.{stateOf}
+use Rattle.rules.specs.Ringing.{Ringing, ringsOf}
+use Rattle.tables.specs.Regions.{stateIn}
+use Rattle.tables.proofs.SliceRoom.{room-of}
+use Rattle.cycles.specs.Census.{censusOf}
 use Rattle.listing_text.specs.Buffer.{Put}
 use Rattle.listing_text.specs.Lines.{headLine}
-use Rattle.planar_graph.specs.Replies.{ringReply}
-use Rattle.listing_steps.specs.Listing.{linesOf}
+use Rattle.ring_entry.specs.Replies.{ringReply}
+use Rattle.listing_steps.specs.Listing.{linesOf, linesRoom}
+use Rattle.listing_steps.specs.Shown.{Shown}
 use Rattle.listing_steps.proofs.RingTexts.{put-row, head-room}
-use Rattle.listing_steps.proofs.Extracted.{extracted-count, extracted-shown}
+use Rattle.listing_steps.proofs.Extracted.{extracted-room, extracted-count, extracted-shown}
 use Rattle.listing_steps.proofs.Steps.{refused-text, done-text}
 use borrow.Author.Needs.{needs}
 use Rattle.listing_steps.proofs.put_cut.Statement.{statement}
 use Rattle.listing_steps.proofs.put_cut.Tie as tie
 
--- the state that the tables hold
+-- the state that the slices hold
 abbrev held : tie.Start → State
-held k = stateOf (k .args .graph) (k .args .nodes-x .now) (k .args .nodes-y .now) (k .args .nodes-z .now) (k .args .nodes-degree .now) (k .args .nodes-marked .now)
-    (k .args .edges-line .now) (k .args .edges-line-id .now) (k .args .dir-edges-src .now) (k .args .dir-edges-dst .now) (k .args .dir-edges-marked .now) (k .args .nodes-outgoing .now)
+held k = stateIn limits (k .args .graph) (k .args .floats .now) (k .args .numbers .now) (k .args .stars .now) (k .args .marks .now) (k .args .ids .now)
+
+-- the start, from where the rings were extracted
+abbrev entry : tie.After-extract-rings → tie.Start
+entry c = c .before .before .before .before .before .before .before .before .before .before .before .before .before
+
+-- that place, from line one
+abbrev ringed : tie.After-put-head → tie.After-extract-rings
+ringed c = c .before .before .before .before .before .before .before .before .before .before .before .before .before .before .before .before
 
 slice-aggregate-extract-rings : tie.Need-slice-aggregate-extract-rings
 slice-aggregate-extract-rings c = search needs
@@ -64,7 +76,7 @@ printed-requires-5 : tie.Need-printed-requires-5
 printed-requires-5 c κs = search needs
 
 put-head-requires : tie.Need-put-head-requires
-put-head-requires c κs = omega (arith, c .before .before .before .before .before .before .before .before .before .before .before .before .before .before .before .before .before .before .before .before .before .before .before .before .before .before .before .before .before .before .before .before .before .before .pre)
+put-head-requires c κs = omega (arith, entry (c .before .before .before .before .before .before .before .before .before .before .before .before .before .before .before) .pre)
 
 slice-aggregate-put-rings : tie.Need-slice-aggregate-put-rings
 slice-aggregate-put-rings c = search needs
@@ -81,34 +93,62 @@ slice-aggregate-put-rings-4 c = search needs
 slice-aggregate-put-rings-5 : tie.Need-slice-aggregate-put-rings-5
 slice-aggregate-put-rings-5 c = search needs
 
--- line one leaves room for the rings' lines
-head-fits : (c : tie.After-put-head) → c .put-head .result + 78 * 2048 ≤ length (c .put-head .last .0)
+-- what was answered
+abbrev answer : tie.After-put-head → Ringing
+answer c = let v = c .before .before .before .before .before .before .before .before .reply .given .0 in record { count = v .0; census = censusOf (v .1 .0); comparisons = v .1 .1 .0 }
+
+-- ring extraction succeeded
+done : (c : tie.After-put-head) → ringReply (ringed c .extract-rings .result .reply) ≡ success (answer c)
+done c = ap ringReply (c .before .before .before .before .before .before .before .before .reply .given .1)
+
+-- so the slices have room for their regions
+roomed : (c : tie.After-put-head) → 2 * limits .edges ≤ length (entry (ringed c) .args .numbers .now)
+unfolding ofBits
+roomed c =
+    let a = entry (ringed c) .args in
+    omega (arith, room-of limits (a .graph) (a .floats .now) (a .numbers .now) (a .stars .now) (a .marks .now) (a .ids .now) (extracted-room (held (entry (ringed c))) _ _ _ _ _ (ringed c .extract-rings .ensures) (done c)) .numberRoom)
+
+-- and the lists hold the rings
+shown : (c : tie.After-put-head) → let l = ringed c .extract-rings .last in
+    Shown (ringsOf (held (entry (ringed c)))) (l .1 .1 .1 .1 .1 .1 .0) (l .1 .1 .1 .1 .1 .1 .1 .0) (l .1 .1 .1 .1 .1 .1 .1 .1 .0) (l .1 .1 .1 .1 .1 .1 .1 .1 .1 .0) (l .1 .1 .1 .1 .1 .1 .1 .1 .1 .1 .1 .0)
+unfolding ofBits
+shown c =
+    let x = ringed c .extract-rings in
+    extracted-shown (held (entry (ringed c))) _ _ _ _ _ (x .ensures) (done c) (x .kept .1 .1 .1 .1 .1 .1 .0) (x .kept .1 .1 .1 .1 .1 .1 .1 .0)
+
+-- as many as were counted
+many : (c : tie.After-put-head) → answer c .count ≡ length (ringsOf (held (entry (ringed c))))
+unfolding ofBits
+many c = extracted-count (held (entry (ringed c))) _ _ _ _ _ (ringed c .extract-rings .ensures) (done c)
+
+-- line one leaves room for their lines
+head-fits : (c : tie.After-put-head) → c .put-head .result + linesRoom limits ≤ length (c .put-head .last .0)
 head-fits c =
-    let k = c .before .before .before .before .before .before .before .before .before .before .before .before .before .before .before .before .before .before .before .before .before .before .before .before .before .before .before .before .before .before .before .before .before .before .before in
+    let k = entry (ringed c) in
     head-room _ _ _ _ _ _ (k .args .out .now) (c .put-head .last .0) (c .put-head .result)
     (omega (arith, c .before .before .before .before .before .printed .ensures)) (omega (arith, c .before .before .before .before .printed2 .ensures)) (omega (arith, c .before .before .before .printed3 .ensures)) (omega (arith, c .before .before .printed4 .ensures)) (omega (arith, c .before .printed5 .ensures))
     (c .put-head .ensures) (k .pre) (c .put-head .kept .0)
 
+sub-put-rings : tie.Need-sub-put-rings
+sub-put-rings c = search needs
+
+part-put-rings-start : tie.Need-part-put-rings-start
+part-put-rings-start c = search needs
+
+part-put-rings-end : tie.Need-part-put-rings-end
+part-put-rings-end c = roomed (c .before .before .before .before .before .before .before .before)
+
 put-rings-requires : tie.Need-put-rings-requires
-unfolding ofBits
-put-rings-requires c κs =
-    let s = held (c .before .before .before .before .before .before .before .before .before .before .before .before .before .before .before .before .before .before .before .before .before .before .before .before .before .before .before .before .before .before .before .before .before .before .before .before .before .before .before .before .before .before .before) in
-    let x = c .before .before .before .before .before .before .before .before .before .before .before .before .before .before .before .before .before .before .before .before .before .before .before .before .extract-rings in
-    let done = ap ringReply (c .before .before .before .before .before .before .before .before .before .before .before .before .before .before .before .before .reply .given .1) in (
-      ringsOf s,
-      extracted-shown s _ _ _ _ _ (x .ensures) done (x .kept .1 .1 .1 .1 .1 .1 .1 .1 .1 .1 .1 .1 .0) (x .kept .1 .1 .1 .1 .1 .1 .1 .1 .1 .1 .1 .1 .1 .0),
-      extracted-count s _ _ _ _ _ (x .ensures) done,
-      head-fits (c .before .before .before .before .before .before .before .before),
-    )
+put-rings-requires c κs = let h = c .before .before .before .before .before .before .before .before .before in (ringsOf (held (entry (ringed h))), shown h, many h, head-fits h)
 
 enum-known-reply-2 : tie.Need-enum-known-reply-2
 enum-known-reply-2 c = search needs
 
-refusal-number-requires : tie.Need-refusal-number-requires
-refusal-number-requires c κs = search needs
+number-of-requires : tie.Need-number-of-requires
+number-of-requires c κs = search needs
 
 put-refusal-requires : tie.Need-put-refusal-requires
-put-refusal-requires c κs = omega (arith, c .before .before .before .before .before .before .before .before .before .before .before .before .before .before .before .before .before .before .before .before .before .before .before .before .before .before .before .before .before .before .pre)
+put-refusal-requires c κs = omega (arith, entry (c .before .before .before .before .before .before .before .before .before .before .before) .pre)
 
 same-length : tie.Need-same-length
 same-length c = search needs
@@ -116,18 +156,14 @@ same-length c = search needs
 returns : tie.Need-returns
 unfolding ofBits
 returns c =
-    let a = c .before .before .before .before .before .before .before .before .before .before .before .before .before .before .before .before .before .before .before .before .before .before .before .before .before .before .before .before .before .before .before .before .before .before .before .before .before .before .before .before .before .before .before .before .before .before .args in
-    let s = held (c .before .before .before .before .before .before .before .before .before .before .before .before .before .before .before .before .before .before .before .before .before .before .before .before .before .before .before .before .before .before .before .before .before .before .before .before .before .before .before .before .before .before .before .before .before .before) in
-    let x = c .before .before .before .before .before .before .before .before .before .before .before .before .before .before .before .before .before .before .before .before .before .before .before .before .before .before .before .extract-rings in
-    let h = c .before .before .before .before .before .before .before .before .before .before .before .put-head in
+    let h = c .before .before .before .before .before .before .before .before .before .before .before .before in
+    let a = entry (ringed h) .args in
+    let s = held (entry (ringed h)) in
     let t = c .before .before .put-rings in
-    let done = ap ringReply (c .before .before .before .before .before .before .before .before .before .before .before .before .before .before .before .before .before .before .before .reply .given .1) in
-    let shown = extracted-shown s _ _ _ _ _ (x .ensures) done (x .kept .1 .1 .1 .1 .1 .1 .1 .1 .1 .1 .1 .1 .0) (x .kept .1 .1 .1 .1 .1 .1 .1 .1 .1 .1 .1 .1 .1 .0) in
-    let many = extracted-count s _ _ _ _ _ (x .ensures) done in
     subst (λ y. Put 0 y (a .out .now) (t .last .0) (t .result))
-    ((λ i. headLine (c .before .before .before .before .before .before .before .before .before .before .before .before .before .before .before .before .printed .ensures i) (c .before .before .before .before .before .before .before .before .before .before .before .before .before .before .before .printed2 .ensures i) (c .before .before .before .before .before .before .before .before .before .before .before .before .before .before .printed3 .ensures i) (c .before .before .before .before .before .before .before .before .before .before .before .before .before .printed4 .ensures i) (c .before .before .before .before .before .before .before .before .before .before .before .before .printed5 .ensures i) (c .before .before .before .before .before .before .before .before .before .before .before .before .before .before .before .before .before .before .before .reply .given .0 .1 .0 .verdict) ++ linesOf (s .source) (ringsOf s) (c .before .before .before .before .before .before .before .before .before .before .before .before .before .before .before .before .before .before .before .reply .given .0 .0))
-    ∙ done-text (a .records) (λ r y. headLine (s .nodes) (s .edges) (a .dangles) (a .cuts) (r .count) (r .census .verdict) ++ linesOf (s .source) (ringsOf s) (r .count)) _ _ _ _ (x .ensures) _ done)
-    (put-row 0 _ _ (a .out .now) (h .last .0) (t .last .0) (h .result) (t .result) (omega (arith, h .ensures .after, head-fits (c .before .before .before .before .before .before .before .before .before .before .before), h .kept .0)) (h .ensures) (t .ensures (ringsOf s) shown many))
+    ((λ i. headLine (h .before .before .before .before .before .printed .ensures i) (h .before .before .before .before .printed2 .ensures i) (h .before .before .before .printed3 .ensures i) (h .before .before .printed4 .ensures i) (h .before .printed5 .ensures i) (answer h .census .verdict) ++ linesOf (s .source) (ringsOf s) (answer h .count))
+    ∙ done-text (a .records) (λ r y. headLine (s .nodes) (s .edges) (a .dangles) (a .cuts) (r .count) (r .census .verdict) ++ linesOf (s .source) (ringsOf s) (r .count)) _ _ _ _ (ringed h .extract-rings .ensures) _ (done h))
+    (put-row 0 _ _ (a .out .now) (h .put-head .last .0) (t .last .0) (h .put-head .result) (t .result) (omega (arith, h .put-head .ensures .after, head-fits h, h .put-head .kept .0)) (h .put-head .ensures) (t .ensures (ringsOf s) (shown h) (many h)))
 
 same-length-2 : tie.Need-same-length-2
 same-length-2 c = search needs
@@ -135,11 +171,12 @@ same-length-2 c = search needs
 returns-2 : tie.Need-returns-2
 unfolding ofBits
 returns-2 c =
-    let a = c .before .before .before .before .before .before .before .before .before .before .before .before .before .before .before .before .before .before .before .before .before .before .before .before .before .before .before .before .before .before .before .before .before .args in
-    let s = held (c .before .before .before .before .before .before .before .before .before .before .before .before .before .before .before .before .before .before .before .before .before .before .before .before .before .before .before .before .before .before .before .before .before) in
+    let x = c .before .before .before .before .before .before .before .before .before .before .before .before .before .before in
+    let a = entry x .args in
+    let s = held (entry x) in
     let t = c .before .before .put-refusal in
-    subst (λ x. Put 0 x (a .out .now) (t .last .0) (t .result))
-    (refused-text (a .records) (λ r x. headLine (s .nodes) (s .edges) (a .dangles) (a .cuts) (r .count) (r .census .verdict) ++ linesOf (s .source) (ringsOf s) (r .count)) _ _ _ _ (c .before .before .before .before .before .before .before .before .before .before .before .before .before .before .extract-rings .ensures) _ _ (c .before .before .before .refusal-number .ensures) (ap ringReply (c .before .before .before .before .before .before .reply2 .given .1)))
+    subst (λ y. Put 0 y (a .out .now) (t .last .0) (t .result))
+    (refused-text (a .records) (λ r y. headLine (s .nodes) (s .edges) (a .dangles) (a .cuts) (r .count) (r .census .verdict) ++ linesOf (s .source) (ringsOf s) (r .count)) _ _ _ _ (x .extract-rings .ensures) _ _ (c .before .before .before .number-of .ensures) (ap ringReply (c .before .before .before .before .before .before .reply2 .given .1)))
     (t .ensures)
 
 pub put-cut-spec : {M : Type 1} → statement M
@@ -165,9 +202,12 @@ put-cut-spec =
     slice-aggregate-put-rings-3
     slice-aggregate-put-rings-4
     slice-aggregate-put-rings-5
+    sub-put-rings
+    part-put-rings-start
+    part-put-rings-end
     put-rings-requires
     enum-known-reply-2
-    refusal-number-requires
+    number-of-requires
     put-refusal-requires
     same-length
     returns

@@ -8,6 +8,10 @@ use borrow.Author.Needs.{needs}
 use Rattle.list_segments.proofs.input.read_turn.Statement.{statement}
 use Rattle.list_segments.proofs.input.read_turn.Tie as tie
 
+-- the start, from the read
+abbrev entry : tie.After-read → tie.Start
+entry c = c .before .before .before .before .before .before .before .before
+
 sub-read : tie.Need-sub-read
 sub-read c = search needs
 
@@ -42,7 +46,9 @@ same-length-2 : tie.Need-same-length-2
 same-length-2 c = search needs
 
 returns-2 : tie.Need-returns-2
-returns-2 c = (c .before .before .before .before .before .before .before .before .before .before .before .before .before .before .before .before .before .before .before .before .before .pre .0, omega arith, subst (λ p. Onward p (c .before .before .before .before .before .before .before .before .before .before .before .before .before .before .before .before .before .before .before .before .before .args .kept)) (sym (c .more-or .ensures)) (ended-onward (c .before .end-reply .result) (c .before .before .before .before .before .before .before .before .before .before .before .before .before .before .before .before .before .before .before .before .before .args .kept)))
+returns-2 c =
+    let k = entry (c .before .before .before .before .before .before .before) in
+    (k .pre .0, omega arith, subst (λ p. Onward p (k .args .kept)) (sym (c .more-or .ensures)) (ended-onward (c .before .end-reply .result) (k .args .kept)))
 
 sub-count : tie.Need-sub-count
 sub-count c = search needs
@@ -60,13 +66,14 @@ add-filled : tie.Need-add-filled
 add-filled c = search needs
 
 take-filled-requires : tie.Need-take-filled-requires
-take-filled-requires c κs = (c .before .before .before .before .before .before .before .before .before .before .before .before .before .before .before .before .before .before .before .before .before .before .before .before .before .before .before .before .before .before .before .before .before .pre .0, omega (arith, c .before .before .before .before .before .before .before .before .before .before .before .before .count .ensures .0 .0, c .before .before .before .before .before .before .before .before .before .before .before .before .before .count-arg .given .1, c .before .before .before .before .before .before .before .before .before .before .before .before .before .before .before .before .before .before .buffer .given .1))
+take-filled-requires c κs =
+    (entry (c .before .before .before .before .before .before .before .before .before .before .before .before .before) .pre .0, omega (arith, c .before .before .before .before .before .before .count .ensures .0 .0, c .before .before .before .before .before .before .before .count-arg .given .1, c .before .before .before .before .before .before .before .before .before .before .before .before .buffer .given .1))
 
 more-or-requires-2 : tie.Need-more-or-requires-2
 more-or-requires-2 c κs = search needs
 
 same-length-3 : tie.Need-same-length-3
-same-length-3 c = c .before .before .before .before .before .before .before .before .before .before .before .before .before .before .before .before .before .before .before .before .before .before .before .before .before .before .take-filled .kept .1 .0 ∙ c .before .before .before .before .before .before .before .before .before .before .before .before .before .before .before .before .before .before .before .before .before .before .before .before .before .before .before .before .before .before .before .before .before .before .before .before .before .before .before .before .before .before .before .before .before .buffer .given .1
+same-length-3 c = c .before .before .before .before .before .before .before .before .before .before .before .before .before .before .take-filled .kept .1 .0 ∙ c .before .before .before .before .before .before .before .before .before .before .before .before .before .before .before .before .before .before .before .before .before .before .before .before .before .before .before .buffer .given .1
 
 same-length-4 : tie.Need-same-length-4
 same-length-4 c = search needs
@@ -83,31 +90,15 @@ same-length-7 c = search needs
 same-length-8 : tie.Need-same-length-8
 same-length-8 c = search needs
 
-same-length-9 : tie.Need-same-length-9
-same-length-9 c = search needs
-
-same-length-10 : tie.Need-same-length-10
-same-length-10 c = search needs
-
-same-length-11 : tie.Need-same-length-11
-same-length-11 c = search needs
-
-same-length-12 : tie.Need-same-length-12
-same-length-12 c = search needs
-
-same-length-13 : tie.Need-same-length-13
-same-length-13 c = search needs
-
-same-length-14 : tie.Need-same-length-14
-same-length-14 c = search needs
-
 returns-3 : tie.Need-returns-3
 returns-3 c =
-    let x = c .before .before .before .before .before .before .before .before .before .before .before .before .before .before .before .before .before .before .before .before .before .before .before .before .before .before .take-filled in
-    let room = take-filled-requires (c .before .before .before .before .before .before .before .before .before .before .before .before .before .before .before .before .before .before .before .before .before .before .before .before .before .before .before) (x .lifetimes) .1 in
+    let d = c .before .before .before .before .before .before .before .before .before .before .before .before .before .before in
+    let x = d .take-filled in
+    let k = entry (d .before .before .before .before .before .before .before .before .before .before .before .before .before .before) in
+    let room = take-filled-requires (d .before) (x .lifetimes) .1 in
     let e = x .ensures .0 in (
-      taken-ready _ _ _ _ room e (c .before .before .before .before .before .before .before .before .before .before .before .before .before .before .before .before .before .before .before .before .before .before .before .before .before .before .before .before .before .before .before .before .before .before .before .before .before .before .before .before .before .before .before .before .before .before .before .before .before .before .before .before .before .before .before .before .before .before .before .before .pre .0),
-      omega (arith, taken-within _ _ _ _ room e, room, c .before .before .before .before .before .before .before .before .before .before .before .before .before .before .before .before .before .before .before .before .before .before .before .before .before .before .before .before .before .before .before .before .before .before .before .before .before .before .before .before .before .before .before .before .before .buffer .given .1, c .before .before .before .before .before .before .before .before .before .before .before .before .before .before .before .before .before .before .before .before .before .before .before .before .before .before .before .before .before .before .before .before .before .before .before .before .before .before .before .before .before .before .before .before .before .before .before .before .before .before .before .before .before .before .before .before .before .before .before .before .pre .2),
+      taken-ready _ _ _ _ room e (k .pre .0),
+      omega (arith, taken-within _ _ _ _ room e, room, d .before .before .before .before .before .before .before .before .before .before .before .before .before .buffer .given .1, k .pre .2),
       subst (λ p. Onward p (x .result .kept)) (sym (c .more-or2 .ensures)) (taken-onward _ _ _ _ room e (x .result .reply) refl (x .result .kept) (x .ensures .1 .0)),
     )
 
@@ -140,10 +131,4 @@ read-turn-spec =
     same-length-6
     same-length-7
     same-length-8
-    same-length-9
-    same-length-10
-    same-length-11
-    same-length-12
-    same-length-13
-    same-length-14
     returns-3)

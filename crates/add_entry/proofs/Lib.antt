@@ -1,0 +1,4 @@
+-- an addition's tests
+pub mod Shell
+-- a refusal changes nothing lent
+pub mod Refusals

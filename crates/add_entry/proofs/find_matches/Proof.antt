@@ -1,0 +1,110 @@
+-- `find_matches` meets its contract: the searches read the regions, lent as parts.
+use Prim.Native.Nat.{_*_}
+use mathlib.Core.Path.{sym, ap, subst, _∙_}
+use Rattle.rules.specs.Limits.{limits}
+use Rattle.tables.specs.Regions.{xsIn, ysIn, sourcesIn, starTableIn}
+use Rattle.tables.proofs.Regions.{tail-is}
+use Rattle.adding.specs.Searches.{Searchable, findHalfIn}
+use borrow.Author.Needs.{needs}
+use Rattle.add_entry.proofs.find_matches.Statement.{statement}
+use Rattle.add_entry.proofs.find_matches.Tie as tie
+
+sub-xs : tie.Need-sub-xs
+sub-xs c = search needs
+
+part-xs-start : tie.Need-part-xs-start
+part-xs-start c = search needs
+
+part-xs-end : tie.Need-part-xs-end
+part-xs-end c = search needs
+
+sub-ys : tie.Need-sub-ys
+sub-ys c = search needs
+
+part-ys-start : tie.Need-part-ys-start
+part-ys-start c = search needs
+
+part-ys-end : tie.Need-part-ys-end
+part-ys-end c = search needs
+
+-- the entry, from the place where the start was searched for
+abbrev entry : tie.After-find-node → tie.Start
+entry c = c .before .before .before .before .before .before
+
+find-node-requires : tie.Need-find-node-requires
+find-node-requires c κs = search needs
+
+find-node-requires-2 : tie.Need-find-node-requires-2
+find-node-requires-2 c κs = search needs
+
+sub-find-edge : tie.Need-sub-find-edge
+sub-find-edge c = search needs
+
+part-find-edge-start : tie.Need-part-find-edge-start
+part-find-edge-start c = search needs
+
+part-find-edge-end : tie.Need-part-find-edge-end
+part-find-edge-end c = search needs
+
+sub-find-edge-2 : tie.Need-sub-find-edge-2
+sub-find-edge-2 c = search needs
+
+part-find-edge-start-2 : tie.Need-part-find-edge-start-2
+part-find-edge-start-2 c = search needs
+
+part-find-edge-end-2 : tie.Need-part-find-edge-end-2
+part-find-edge-end-2 c = search needs
+
+sub-find-edge-3 : tie.Need-sub-find-edge-3
+sub-find-edge-3 c = search needs
+
+part-find-edge-start-3 : tie.Need-part-find-edge-start-3
+part-find-edge-start-3 c = search needs
+
+part-find-edge-end-3 : tie.Need-part-find-edge-end-3
+part-find-edge-end-3 c = search needs
+
+find-edge-requires : tie.Need-find-edge-requires
+find-edge-requires c κs =
+    let k = entry (c .before .before .before .before) in
+    let a = k .args in
+    let q = subst (λ t. Searchable (a .graph .«node_count») (a .graph .«edge_count») (xsIn limits (a .floats .now)) (ysIn limits (a .floats .now)) (sourcesIn limits (a .numbers .now)) t (starTableIn limits (a .stars .now)))
+    (sym (tail-is (2 * limits .edges) (a .numbers .now))) (k .pre .tables) in
+    ((q .fewEdges, q .roomStar), (q .known, q .within))
+
+returns : tie.Need-returns
+returns c =
+    let two = c .before .before .before .before in
+    let one = two .before in
+    let a = entry one .args in
+    record {
+      start = one .find-node .ensures;
+      end = two .find-node2 .ensures;
+      half = c .find-edge .ensures
+          ∙ ap (λ t. findHalfIn (a .graph .«edge_count») (sourcesIn limits (a .numbers .now)) t (starTableIn limits (a .stars .now)) (one .find-node .result .0) (two .find-node2 .result .0))
+          (tail-is (2 * limits .edges) (a .numbers .now));
+    }
+
+pub find-matches-spec : {M : Type 1} → statement M
+find-matches-spec =
+    tie.close
+    (tie.spec
+    sub-xs
+    part-xs-start
+    part-xs-end
+    sub-ys
+    part-ys-start
+    part-ys-end
+    find-node-requires
+    find-node-requires-2
+    sub-find-edge
+    part-find-edge-start
+    part-find-edge-end
+    sub-find-edge-2
+    part-find-edge-start-2
+    part-find-edge-end-2
+    sub-find-edge-3
+    part-find-edge-start-3
+    part-find-edge-end-3
+    find-edge-requires
+    returns)

@@ -1,0 +1,2 @@
+-- What an addition ensures.
+pub mod Clause

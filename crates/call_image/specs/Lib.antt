@@ -1,0 +1,2 @@
+-- The length of an image.
+pub mod Image

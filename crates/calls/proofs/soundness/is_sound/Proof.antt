@@ -1,0 +1,132 @@
+-- `is_sound` meets its contract: the regions are lent as parts.
+use Prim.Native.Nat.{_*_}
+use mathlib.Core.Path.{_∙_}
+use Rattle.rules.specs.Limits.{limits}
+use Rattle.rules.specs.State.{sound}
+use Rattle.tables.specs.Tables.{stateOf}
+use Rattle.tables.specs.Regions.{xsIn, ysIn, zsIn, segmentsIn, sourcesIn, starTableIn, nodeMarksIn}
+use Rattle.tables.proofs.Regions.{tail-is}
+use borrow.Author.Needs.{needs}
+use Rattle.calls.proofs.soundness.is_sound.Statement.{statement}
+use Rattle.calls.proofs.soundness.is_sound.Tie as tie
+
+sub-is-sound : tie.Need-sub-is-sound
+sub-is-sound c = search needs
+
+part-is-sound-start : tie.Need-part-is-sound-start
+part-is-sound-start c = search needs
+
+part-is-sound-end : tie.Need-part-is-sound-end
+part-is-sound-end c = search needs
+
+sub-is-sound-2 : tie.Need-sub-is-sound-2
+sub-is-sound-2 c = search needs
+
+part-is-sound-start-2 : tie.Need-part-is-sound-start-2
+part-is-sound-start-2 c = search needs
+
+part-is-sound-end-2 : tie.Need-part-is-sound-end-2
+part-is-sound-end-2 c = search needs
+
+sub-is-sound-3 : tie.Need-sub-is-sound-3
+sub-is-sound-3 c = search needs
+
+part-is-sound-start-3 : tie.Need-part-is-sound-start-3
+part-is-sound-start-3 c = search needs
+
+part-is-sound-end-3 : tie.Need-part-is-sound-end-3
+part-is-sound-end-3 c = search needs
+
+sub-is-sound-4 : tie.Need-sub-is-sound-4
+sub-is-sound-4 c = search needs
+
+part-is-sound-start-4 : tie.Need-part-is-sound-start-4
+part-is-sound-start-4 c = search needs
+
+part-is-sound-end-4 : tie.Need-part-is-sound-end-4
+part-is-sound-end-4 c = search needs
+
+sub-is-sound-5 : tie.Need-sub-is-sound-5
+sub-is-sound-5 c = search needs
+
+part-is-sound-start-5 : tie.Need-part-is-sound-start-5
+part-is-sound-start-5 c = search needs
+
+part-is-sound-end-5 : tie.Need-part-is-sound-end-5
+part-is-sound-end-5 c = search needs
+
+sub-is-sound-6 : tie.Need-sub-is-sound-6
+sub-is-sound-6 c = search needs
+
+part-is-sound-start-6 : tie.Need-part-is-sound-start-6
+part-is-sound-start-6 c = search needs
+
+part-is-sound-end-6 : tie.Need-part-is-sound-end-6
+part-is-sound-end-6 c = search needs
+
+sub-is-sound-7 : tie.Need-sub-is-sound-7
+sub-is-sound-7 c = search needs
+
+part-is-sound-start-7 : tie.Need-part-is-sound-start-7
+part-is-sound-start-7 c = search needs
+
+part-is-sound-end-7 : tie.Need-part-is-sound-end-7
+part-is-sound-end-7 c = search needs
+
+sub-is-sound-8 : tie.Need-sub-is-sound-8
+sub-is-sound-8 c = search needs
+
+part-is-sound-start-8 : tie.Need-part-is-sound-start-8
+part-is-sound-start-8 c = search needs
+
+part-is-sound-end-8 : tie.Need-part-is-sound-end-8
+part-is-sound-end-8 c = search needs
+
+is-sound-requires : tie.Need-is-sound-requires
+is-sound-requires c κs = search needs
+
+-- the entry, from the place where the list was tested
+abbrev entry : tie.After-is-sound → tie.Start
+entry c = c .before .before .before .before .before .before .before .before .before .before .before .before .before
+
+returns : tie.Need-returns
+returns c ids =
+    let a = entry c .args in
+    let floats = a .floats .now in
+    let numbers = a .numbers .now in
+    let stars = a .stars .now in
+    let marks = a .marks .now in
+    c .is-sound .ensures (zsIn limits floats) (segmentsIn limits floats) ids
+    ∙ (λ i. sound limits (stateOf (a .graph) (xsIn limits floats) (ysIn limits floats) (zsIn limits floats) (tail-is (2 * limits .edges) stars i) (nodeMarksIn limits marks)
+    (segmentsIn limits floats) ids (sourcesIn limits numbers) (tail-is (2 * limits .edges) numbers i) (tail-is (limits .nodes) marks i) (starTableIn limits stars)))
+
+pub is-sound-spec : {M : Type 1} → statement M
+is-sound-spec =
+    tie.close
+    (tie.spec
+    sub-is-sound
+    part-is-sound-start
+    part-is-sound-end
+    sub-is-sound-2
+    part-is-sound-start-2
+    part-is-sound-end-2
+    sub-is-sound-3
+    part-is-sound-start-3
+    part-is-sound-end-3
+    sub-is-sound-4
+    part-is-sound-start-4
+    part-is-sound-end-4
+    sub-is-sound-5
+    part-is-sound-start-5
+    part-is-sound-end-5
+    sub-is-sound-6
+    part-is-sound-start-6
+    part-is-sound-end-6
+    sub-is-sound-7
+    part-is-sound-start-7
+    part-is-sound-end-7
+    sub-is-sound-8
+    part-is-sound-start-8
+    part-is-sound-end-8
+    is-sound-requires
+    returns)

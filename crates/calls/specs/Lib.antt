@@ -1,0 +1,3 @@
+-- The tests that a call begins with, and what came out of it.
+pub mod Checks
+pub mod Replies

@@ -1,0 +1,3 @@
+-- What creating answers and ensures.
+pub mod Replies
+pub mod Clause

@@ -1,0 +1,4 @@
+-- What cutting asks of the slices, answers and ensures.
+pub mod Given
+pub mod Replies
+pub mod Clause

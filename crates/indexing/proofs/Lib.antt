@@ -1,0 +1,2 @@
+-- the chains of a graph, before and after an addition
+pub mod Growing

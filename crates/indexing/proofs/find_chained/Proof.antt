@@ -1,0 +1,112 @@
+-- `find_chained` meets its contract: the searches read the regions, lent as parts.
+use Prim.Native.Nat.{_*_}
+use mathlib.Core.Path.{sym, ap, subst, _∙_}
+use Rattle.rules.specs.Limits.{limits}
+use Rattle.tables.specs.Regions.{sourcesIn, starTableIn}
+use Rattle.tables.proofs.Regions.{tail-is}
+use Rattle.adding.specs.Searches.{findHalfIn}
+use Rattle.lookup.specs.Indexed.{HalvesChained}
+use borrow.Author.Needs.{needs}
+use Rattle.indexing.proofs.find_chained.Statement.{statement}
+use Rattle.indexing.proofs.find_chained.Tie as tie
+
+sub-xs : tie.Need-sub-xs
+sub-xs c = search needs
+
+part-xs-start : tie.Need-part-xs-start
+part-xs-start c = search needs
+
+part-xs-end : tie.Need-part-xs-end
+part-xs-end c = search needs
+
+sub-ys : tie.Need-sub-ys
+sub-ys c = search needs
+
+part-ys-start : tie.Need-part-ys-start
+part-ys-start c = search needs
+
+part-ys-end : tie.Need-part-ys-end
+part-ys-end c = search needs
+
+-- the entry, from the place where the start was searched for
+abbrev entry : tie.After-find-node → tie.Start
+entry c = c .before .before .before .before .before .before .before .before
+
+find-node-requires : tie.Need-find-node-requires
+find-node-requires c κs = search needs
+
+find-node-requires-2 : tie.Need-find-node-requires-2
+find-node-requires-2 c κs = search needs
+
+sub-find-half : tie.Need-sub-find-half
+sub-find-half c = search needs
+
+part-find-half-start : tie.Need-part-find-half-start
+part-find-half-start c = search needs
+
+part-find-half-end : tie.Need-part-find-half-end
+part-find-half-end c = search needs
+
+sub-find-half-2 : tie.Need-sub-find-half-2
+sub-find-half-2 c = search needs
+
+part-find-half-start-2 : tie.Need-part-find-half-start-2
+part-find-half-start-2 c = search needs
+
+part-find-half-end-2 : tie.Need-part-find-half-end-2
+part-find-half-end-2 c = search needs
+
+sub-find-half-3 : tie.Need-sub-find-half-3
+sub-find-half-3 c = search needs
+
+part-find-half-start-3 : tie.Need-part-find-half-start-3
+part-find-half-start-3 c = search needs
+
+part-find-half-end-3 : tie.Need-part-find-half-end-3
+part-find-half-end-3 c = search needs
+
+find-half-requires : tie.Need-find-half-requires
+find-half-requires c κs =
+    let k = entry (c .before .before .before .before) in
+    let a = k .args in (
+      k .pre .0 .tables .fewEdges,
+      subst (λ t. HalvesChained (2 * a .graph .«edge_count») (sourcesIn limits (a .numbers .now)) t (starTableIn limits (a .stars .now)) (a .half-chains .now))
+          (sym (tail-is (2 * limits .edges) (a .numbers .now))) (k .pre .1 .1),
+    )
+
+returns : tie.Need-returns
+returns c =
+    let two = c .before .before .before .before in
+    let one = two .before in
+    let a = entry one .args in
+    record {
+      start = one .find-node .ensures;
+      end = two .find-node2 .ensures;
+      half = c .find-half .ensures
+          ∙ ap (λ t. findHalfIn (a .graph .«edge_count») (sourcesIn limits (a .numbers .now)) t (starTableIn limits (a .stars .now)) (one .find-node .result .0) (two .find-node2 .result .0))
+          (tail-is (2 * limits .edges) (a .numbers .now));
+    }
+
+pub find-chained-spec : {M : Type 1} → statement M
+find-chained-spec =
+    tie.close
+    (tie.spec
+    sub-xs
+    part-xs-start
+    part-xs-end
+    sub-ys
+    part-ys-start
+    part-ys-end
+    find-node-requires
+    find-node-requires-2
+    sub-find-half
+    part-find-half-start
+    part-find-half-end
+    sub-find-half-2
+    part-find-half-start-2
+    part-find-half-end-2
+    sub-find-half-3
+    part-find-half-start-3
+    part-find-half-end-3
+    find-half-requires
+    returns)

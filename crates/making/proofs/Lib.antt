@@ -1,0 +1,4 @@
+-- the searches
+pub mod Searching
+-- the counts with what is new
+pub mod Counting

@@ -1,0 +1,2 @@
+-- What the searches of an addition find.
+pub mod Matching

@@ -1,0 +1,31 @@
+// Adding a file, as a number with the small state and the values written on success.
+ghost use Rattle.file_entry.specs.Replies.{fileReply};
+ghost use Rattle.replies.specs.Lent.{Answered};
+ghost use Rattle.replies.specs.Values.{fileValues};
+use crate::small::FILE_LENGTH;
+use crate::small::STATE_LENGTH;
+use crate::small::write_state;
+use file_entry::FileAdded;
+use file_entry::FileReply;
+use tables::refusal_number;
+
+// How many records were taken, and the number of what ended it.
+pub fn answer_records(
+    state: &mut [u16; STATE_LENGTH],
+    reply: &mut [u64; FILE_LENGTH],
+    done: FileAdded,
+) -> u32
+    ensures { λ r. ⌜ Answered fileValues (fileReply (done .reply)) (done .graph) (now (state .entry)) (now (reply .entry)) r (now (state .exit)) (now (reply .exit)) ⌝ }
+{
+    let answer = done.reply;
+    let graph = done.graph;
+    match answer {
+        FileReply::Refused(why) => refusal_number(why),
+        FileReply::Taken(count, number) => {
+            let taken = count as u64;
+            *reply = [taken, number];
+            write_state(state, graph);
+            0
+        }
+    }
+}

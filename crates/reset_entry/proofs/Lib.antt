@@ -1,0 +1,4 @@
+-- resetting's tests
+pub mod Shell
+-- a refusal changes nothing lent
+pub mod Refusals

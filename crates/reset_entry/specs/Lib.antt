@@ -1,0 +1,2 @@
+-- What resetting ensures.
+pub mod Clause

@@ -1,0 +1,4 @@
+-- sorting's tests
+pub mod Shell
+-- a refusal changes nothing lent
+pub mod Refusals

@@ -1,0 +1,2 @@
+-- What sorting ensures.
+pub mod Clause

@@ -1,0 +1,2 @@
+-- What creating and adding leave for a station.
+pub mod Calls

@@ -1,0 +1,3 @@
+-- What the entries on segment files leave.
+pub mod Reading
+pub mod Calls

@@ -1,0 +1,2 @@
+-- What the questions leave.
+pub mod Questions

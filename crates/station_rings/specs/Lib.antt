@@ -1,0 +1,2 @@
+-- What ring extraction leaves for a station.
+pub mod Calls

@@ -1,0 +1,2 @@
+-- What the station's steps leave.
+pub mod Calls

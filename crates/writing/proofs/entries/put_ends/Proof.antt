@@ -1,0 +1,60 @@
+-- `put_ends` meets its contract: the first two entries lie in the first region, the others in the last.
+use Prim.Native.Nat.{_+_, _*_, _<_}
+use native.Mathlib.Omega.{arith}
+use mathlib.Core.Path.{ap, _∙_}
+use Rattle.rules.specs.Limits.{limits}
+use Rattle.tables.specs.Regions.{sourcesIn, targetsIn}
+use Rattle.adding.specs.Written.{twoAt}
+use Rattle.writing.proofs.Stores.{front-two, front-two-rest, tail-two, tail-two-rest}
+use borrow.Author.Needs.{needs}
+use Rattle.writing.proofs.entries.put_ends.Statement.{statement}
+use Rattle.writing.proofs.entries.put_ends.Tie as tie
+
+wide-requires : tie.Need-wide-requires
+wide-requires c κs = search needs
+
+mul-first : tie.Need-mul-first
+mul-first c = search needs
+
+put-halves-requires : tie.Need-put-halves-requires
+put-halves-requires c κs = search needs
+
+add-put-halves : tie.Need-add-put-halves
+add-put-halves c = search needs
+
+put-halves-requires-2 : tie.Need-put-halves-requires-2
+put-halves-requires-2 c κs = search needs
+
+same-length : tie.Need-same-length
+same-length c = search needs
+
+-- the entry, from the place behind the first two entries
+abbrev start : tie.After-put-halves → tie.Start
+start c = c .before .before .before .before
+
+returns : tie.Need-returns
+returns c =
+    let d = c .before .before .before .before .before .before in
+    let a = start d .args in
+    let n = 2 * limits .edges in
+    let f = 2 * a .edge .0 in
+    let u = a .u .0 in
+    let v = a .v .0 in
+    let first = d .put-halves .ensures ∙ ap (λ k. twoAt (a .numbers .now) (2 * k) u v) (d .before .before .wide .ensures) in
+    let second = c .before .before .put-halves2 .ensures ∙ (λ i. twoAt (first i) (n + 2 * d .before .before .wide .ensures i) v u) in
+    let low : f + 1 < n = omega (arith, start d .pre) in (
+      ap (sourcesIn limits) second ∙ tail-two-rest n (twoAt (a .numbers .now) f u v) f v u ∙ front-two n (a .numbers .now) f u v low,
+      ap (targetsIn limits) second ∙ tail-two n (twoAt (a .numbers .now) f u v) f v u ∙ ap (λ t. twoAt t f v u) (front-two-rest n (a .numbers .now) f u v low),
+    )
+
+pub put-ends-spec : {M : Type 1} → statement M
+put-ends-spec =
+    tie.close
+    (tie.spec
+    wide-requires
+    mul-first
+    put-halves-requires
+    add-put-halves
+    put-halves-requires-2
+    same-length
+    returns)

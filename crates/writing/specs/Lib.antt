@@ -1,0 +1,2 @@
+-- Writing a new node and a new edge.
+pub mod Written

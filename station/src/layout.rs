@@ -1,0 +1,62 @@
+//! The limits of a graph, and where its tables lie in the slices that are lent.
+//!
+//! The tables are regions of five slices: floats, numbers, stars, marks and ids. A constant is the
+//! place where a region begins, or the least length of a slice. The last region of a slice runs to
+//! its end, so that a longer slice is lent for a longer last table.
+
+/// The most nodes that a graph may have.
+pub const NODE_LIMIT: usize = 1024;
+
+/// The most edges that a graph may have. All that follows is made from these two limits.
+pub const EDGE_LIMIT: usize = 1024;
+
+pub const HALF_EDGE_LIMIT: usize = 2 * EDGE_LIMIT;
+
+/// The floats of a segment: start x, y, z and end x, y, z.
+pub const SEGMENT_FLOATS: usize = 6;
+
+// ---- floats: x, y and z of the nodes, then segments
+
+pub const NODES_X: usize = 0;
+pub const NODES_Y: usize = NODES_X + NODE_LIMIT;
+pub const NODES_Z: usize = NODES_Y + NODE_LIMIT;
+
+/// The segment of edge k begins [`SEGMENT_FLOATS`] k past this place.
+pub const SEGMENTS: usize = NODES_Z + NODE_LIMIT;
+
+/// The least length of the floats.
+pub const FLOATS: usize = SEGMENTS + SEGMENT_FLOATS * EDGE_LIMIT;
+
+// ---- numbers: the nodes at the ends of half-edges
+
+/// Where half-edges start.
+pub const SOURCES: usize = 0;
+
+/// Where they end.
+pub const TARGETS: usize = SOURCES + HALF_EDGE_LIMIT;
+
+/// The least length of the numbers.
+pub const NUMBERS: usize = TARGETS + HALF_EDGE_LIMIT;
+
+// ---- stars: half-edges by node, and how many
+
+/// Every half-edge once. A node's star is what of it starts at the node, in this order.
+pub const OUTGOING: usize = 0;
+
+pub const DEGREES: usize = OUTGOING + HALF_EDGE_LIMIT;
+
+/// The least length of the stars.
+pub const STARS: usize = DEGREES + NODE_LIMIT;
+
+// ---- marks: a byte each
+
+pub const NODE_MARKS: usize = 0;
+pub const HALF_EDGE_MARKS: usize = NODE_MARKS + NODE_LIMIT;
+
+/// The least length of the marks.
+pub const MARKS: usize = HALF_EDGE_MARKS + HALF_EDGE_LIMIT;
+
+// ---- ids: line ids alone
+
+/// The least length of the ids.
+pub const IDS: usize = EDGE_LIMIT;
