@@ -6,7 +6,6 @@ use Rattle.rules.specs.Adding.{Nothing, Added}
 use Rattle.rules.specs.Euler.{Census}
 use Rattle.rules.specs.Stages.{Cutting}
 use Rattle.rules.specs.Ringing.{Ringing}
-use Rattle.file_entry.specs.FileAdding.{Records}
 
 -- success alone
 abbrev pub noValues : Nothing → List ℕ
@@ -15,10 +14,6 @@ noValues a = []
 -- the edge, and 1 where it is new
 abbrev pub addedValues : Added → List ℕ
 addedValues a = a .edge ∷ cond (a .new) 1 0 ∷ []
-
--- how many records of a file were taken, and the number of what ended it
-abbrev pub fileValues : Records → List ℕ
-fileValues a = a .taken ∷ a .number ∷ []
 
 -- the count
 abbrev pub countValue : ℕ → List ℕ

@@ -12,6 +12,7 @@ use adding::Added;
 use create_entry::Created;
 use tables::refusal_number;
 
+// Where it is refused, whatever graph the caller had stays.
 pub fn answer_created(state: &mut [u16; STATE_LENGTH], done: Created) -> u32
     ensures { λ r. ⌜ Answered noValues (createdReply done) (createdGraph (graphIn (now (state .entry))) done) (now (state .entry)) [] r (now (state .exit)) [] ⌝ }
 {
@@ -24,6 +25,7 @@ pub fn answer_created(state: &mut [u16; STATE_LENGTH], done: Created) -> u32
     }
 }
 
+// The edge, and 1 where it is new.
 pub fn answer_added(
     state: &mut [u16; STATE_LENGTH],
     reply: &mut [u16; ADDED_LENGTH],

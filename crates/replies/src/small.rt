@@ -11,9 +11,6 @@ pub const STATE_LENGTH: usize = 3;
 // An edge, and 1 where it is new.
 pub const ADDED_LENGTH: usize = 2;
 
-// How many records were taken, and the number of what ended it.
-pub const FILE_LENGTH: usize = 2;
-
 // A count alone.
 pub const COUNT_LENGTH: usize = 1;
 

@@ -18,6 +18,7 @@ use prune_entry::PruneReply;
 use prune_entry::Pruned;
 use tables::refusal_number;
 
+// Sorting and resetting have no values.
 pub fn answer_step(state: &mut [u16; STATE_LENGTH], done: Stepped) -> u32
     ensures { λ r. ⌜ Answered noValues (stepReply (done .reply)) (done .graph) (now (state .entry)) [] r (now (state .exit)) [] ⌝ }
 {
@@ -32,6 +33,7 @@ pub fn answer_step(state: &mut [u16; STATE_LENGTH], done: Stepped) -> u32
     }
 }
 
+// How many dangles there were.
 pub fn answer_pruned(
     state: &mut [u16; STATE_LENGTH],
     reply: &mut [u16; COUNT_LENGTH],
@@ -51,6 +53,7 @@ pub fn answer_pruned(
     }
 }
 
+// How many cuts there were, V, E, cycles, C, and 1 where the verdict is yes.
 pub fn answer_cutting(
     state: &mut [u16; STATE_LENGTH],
     reply: &mut [u16; CENSUS_LENGTH],

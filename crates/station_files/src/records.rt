@@ -3,13 +3,13 @@
 ghost use mathlib.Core.Path.{_≡_};
 ghost use Rattle.replies.specs.Left.{lent, none, gives};
 ghost use Rattle.station_files.specs.Calls.{recordsAdded};
+use crate::answer::FILE_LENGTH;
+use crate::answer::answer_records;
 use calls::Checked;
 use lent_marks::check_marks;
 use lent_marks::read_marks;
 use lent_marks::write_marks;
-use replies::FILE_LENGTH;
 use replies::STATE_LENGTH;
-use replies::answer_records;
 use replies::read_state;
 use tables::refusal_number;
 

@@ -11,9 +11,9 @@ use Rattle.calls.specs.declared.checks.Checked.the-variants.{Passed}
 use Rattle.file_entry.specs.FileAdding.{addRecords}
 use Rattle.file_entry.specs.Replies.{fileReply}
 use Rattle.file_entry.proofs.Refusals.{records-keeps}
-use Rattle.replies.specs.Values.{fileValues}
 use Rattle.replies.specs.Left.{Lent, lent, none, heldIn}
 use Rattle.replies.proofs.Handing.{bytes-written, checkOf, check-read, bytes-enough, row-size, turned-away, let-in, settled}
+use Rattle.station_files.specs.Calls.{fileValues}
 use borrow.Author.Needs.{needs}
 use Rattle.station_files.proofs.records.tukmiheb_add_records.Statement.{statement}
 use Rattle.station_files.proofs.records.tukmiheb_add_records.Tie as tie

@@ -1,10 +1,10 @@
 -- `answer_records` meets its contract.
 use mathlib.Core.Path.{refl, ap}
 use Rattle.file_entry.specs.Replies.{fileReply}
 use Rattle.replies.proofs.Replying.{answer-refused, answer-success}
 use borrow.Author.Needs.{needs}
-use Rattle.replies.proofs.files.answer_records.Statement.{statement}
-use Rattle.replies.proofs.files.answer_records.Tie as tie
+use Rattle.station_files.proofs.answer.answer_records.Statement.{statement}
+use Rattle.station_files.proofs.answer.answer_records.Tie as tie
 
 enum-known-answer : tie.Need-enum-known-answer
 enum-known-answer c = search needs

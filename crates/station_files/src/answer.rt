@@ -1,15 +1,16 @@
 // Adding a file, as a number with the small state and the values written on success.
 ghost use Rattle.file_entry.specs.Replies.{fileReply};
 ghost use Rattle.replies.specs.Lent.{Answered};
-ghost use Rattle.replies.specs.Values.{fileValues};
-use crate::small::FILE_LENGTH;
-use crate::small::STATE_LENGTH;
-use crate::small::write_state;
+ghost use Rattle.station_files.specs.Calls.{fileValues};
 use file_entry::FileAdded;
 use file_entry::FileReply;
+use replies::STATE_LENGTH;
+use replies::write_state;
 use tables::refusal_number;
 
 // How many records were taken, and the number of what ended it.
+pub const FILE_LENGTH: usize = 2;
+
 pub fn answer_records(
     state: &mut [u16; STATE_LENGTH],
     reply: &mut [u64; FILE_LENGTH],
