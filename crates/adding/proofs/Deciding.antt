@@ -6,7 +6,7 @@ use mathlib.Core.Bool.{Bool, true, false, cond, _&&_}
 use lib.Dec.{eqb}
 use Rattle.geometry.specs.declared.Line3D.{Line3D}
 use Rattle.rules.specs.Keys.{keyOf}
-use Rattle.tables.specs.declared.NodeId.{NodeId}
+use Rattle.tables.specs.declared.ids.NodeId.{NodeId}
 use Rattle.adding.specs.declared.Ends.{Ends}
 use borrow.Author.Tests.{lt-ltb, le-ltb}
 use Rattle.geometry.specs.Angle.{planar}

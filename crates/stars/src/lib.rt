@@ -9,18 +9,13 @@ ghost use mathlib.Core.Path.{_≡_};
 ghost use Prim.Native.Nat.{_<_};
 ghost use lib.ListN.{length};
 ghost use Rattle.stars.specs.Groups.{unmarked};
-
-// A number of a node or a half-edge as an index.
-fn wide(n: u16) -> usize
-    ensures { λ r. ⌜ r ≡ n ⌝ }
-{
-    n as usize
-}
+use tables::DirEdgeId;
+use tables::wide;
 
 // A half-edge is active while it is not marked.
-pub fn is_active(dir_edges_marked: &[bool], h: u16) -> bool
-    requires { ⌜ h < length (now «dir_edges_marked») ⌝ }
-    ensures { λ r. ⌜ r ≡ unmarked (now («dir_edges_marked» .entry)) h ⌝ }
+pub fn is_active(dir_edges_marked: &[bool], half: DirEdgeId) -> bool
+    requires { ⌜ half .0 < length (now «dir_edges_marked») ⌝ }
+    ensures { λ r. ⌜ r ≡ unmarked (now («dir_edges_marked» .entry)) (half .0) ⌝ }
 {
-    !dir_edges_marked[wide(h)]
+    !dir_edges_marked[wide(half.0)]
 }

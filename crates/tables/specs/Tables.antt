@@ -24,3 +24,7 @@ stateOf g nodesX nodesY nodesZ nodesDegree nodesMarked edgesLine edgesLineId dir
   halfMark = dirEdgesMarked;
   star = nodesOutgoing;
 }
+
+-- the same counts in another stage
+abbrev pub atStage : PlanarGraph → ℕ → PlanarGraph
+atStage g stage = record { «node_count» = g .«node_count»; «edge_count» = g .«edge_count»; stage = stage }

@@ -4,12 +4,19 @@ ghost use mathlib.Core.Bool.{true};
 ghost use Prim.Native.Nat.{_<_};
 ghost use lib.ListN.{length, getD};
 ghost use Rattle.tables.specs.Refusals.{refusalNumber};
+ghost use Rattle.tables.specs.Tables.{atStage};
 
+mod ids;
 mod layout;
 mod reset;
 mod sound;
 mod starts;
 
+pub use crate::ids::DirEdgeId;
+pub use crate::ids::EdgeId;
+pub use crate::ids::FaceId;
+pub use crate::ids::NodeId;
+pub use crate::ids::twin_of;
 pub use crate::layout::DEGREES;
 pub use crate::layout::FLOATS;
 pub use crate::layout::HALF_MARKS;
@@ -28,21 +35,25 @@ pub use crate::reset::write_degrees;
 pub use crate::sound::is_sound;
 pub use crate::starts::count_starts;
 
-// Node, edge, half-edge and face numbers are four counters; none is handed over for another.
-pub struct NodeId(pub u16);
-
-pub struct EdgeId(pub u16);
-
-pub struct DirEdgeId(pub u16);
-
-pub struct FaceId(pub u16);
-
 // The counts and the stage: 0 building, 1 sorted, 2 pruned, 3 cut, 4 ringed. The tables are lent
 // beside it.
 pub struct PlanarGraph {
     pub node_count: u16,
     pub edge_count: u16,
     pub stage: u8,
+}
+
+impl PlanarGraph {
+    // The same counts in another stage.
+    pub fn at_stage(self, stage: u8) -> PlanarGraph
+        ensures { λ r. ⌜ r ≡ atStage self stage ⌝ }
+    {
+        PlanarGraph {
+            node_count: self.node_count,
+            edge_count: self.edge_count,
+            stage,
+        }
+    }
 }
 
 // Why a call is refused, by document 01's numbers 1 to 8.

@@ -19,7 +19,7 @@ shared-slice-read-result c = search needs
 returns : tie.Need-returns
 returns c =
     let s = c .before .before .before in
-    let e : c .before .wide .result ≡ s .args .h = c .before .wide .ensures in
+    let e : c .before .wide .result ≡ s .args .half .0 = c .before .wide .ensures in
     ap not (getD-any (s .args .dir-edges-marked .now) (c .before .wide .result) false true (omega (arith, s .pre)) ∙ ap (λ i. getD (s .args .dir-edges-marked .now) i true) e)
 
 pub is-active-spec : {M : Type 1} → statement M
