@@ -13,6 +13,7 @@ use Rattle.geometry.specs.declared.Line3D.{Line3D}
 use Rattle.lists.specs.Lists.{upto, firstWhere}
 use Rattle.lists.proofs.Counts.{by-eq}
 use Rattle.lists.proofs.Members.{in-at}
+use Rattle.rules.proofs.Going.{demand-is}
 use Rattle.rotation.specs.Rotation.{keySame}
 use Rattle.rules.specs.Keys.{keyOf}
 use Rattle.rules.specs.HalfEdge.{edgeOf}
@@ -25,7 +26,7 @@ use Rattle.rules.proofs.SketchCalls.{first-passes, upto-below}
 use Rattle.rules.proofs.AddingSound.{add-keeps}
 use Rattle.rules.proofs.Tables.{star-length, star-table-only}
 use Rattle.tables.specs.Refusals.{refusalNumber}
-use Rattle.tables.specs.declared.EdgeId.{EdgeId}
+use Rattle.tables.specs.declared.ids.EdgeId.{EdgeId}
 use Rattle.tables.specs.declared.Refusal.the-variants.{NotWhole, SameNode, TooManyNodes, TooManyEdges}
 use Rattle.adding.specs.declared.Ends.{Ends}
 use Rattle.adding.specs.declared.Decision.{Decision}
@@ -45,10 +46,6 @@ carried (Make e) g s = record {
   state = withEdge (e .start .0) (e .end .0) g (withNode (e .«new_end») (e .end .0) (g .end) (withNode (e .«new_start») (e .start .0) (g .start) s));
   lists = record {};
 }
-
--- a test that is passed
-demand-true : {A L : Type 0} (b : Bool) (n : ℕ) (s : State) (lists : L) (o : Outcome A L) → b ≡ true → demand b n s lists o ≡ o
-demand-true b n s lists o e = ap (λ t. demand t n s lists o) e
 
 -- the tests one after the other
 carry : (whole same joined space few : Bool) (k : EdgeId) (e : Ends) (g : Line3D) (s : State) (none : Nothing)
@@ -142,9 +139,9 @@ module _ (g : Line3D) (s : State) (ready : Ready limits s) where
       let w = findNodeIn (s .nodes) (s .nodeX) (s .nodeY) (keyOf (g .end .x) (g .end .y)) in
       let e = endsBy (s .nodes) u w in
       let h = findHalfIn (s .edges) (s .source) (s .target) (s .star) (e .start .0) (e .end .0) in
-      demand-true (roomy limits s) 6 s none _ (ready .room)
-      ∙ demand-true (sound limits s) 7 s none _ (ready .sense)
-      ∙ demand-true (eqb (s .stage) 0) 5 s none _ (eq-eqb (s .stage) 0 (ready .stage))
+      demand-is (roomy limits s) 6 s none _ (ready .room)
+      ∙ demand-is (sound limits s) 7 s none _ (ready .sense)
+      ∙ demand-is (eqb (s .stage) 0) 5 s none _ (eq-eqb (s .stage) 0 (ready .stage))
       ∙ carry (planar (limits .bound) (g .start) && planar (limits .bound) (g .end)) (keySame (keyOf (g .start .x) (g .start .y)) (keyOf (g .end .x) (g .end .y)))
       (ltb h (2 * s .edges)) (leb (s .nodes + (one (e .«new_start») + one (e .«new_end»))) (limits .nodes)) (ltb (s .edges) (limits .edges)) (record { 0 = edgeOf h }) e g s none
       ∙ ap (λ z. carried (decisionBy limits g (s .nodes) (s .edges) u w z) g s) (ends-half (s .nodes) (s .edges) (s .source) (s .target) (s .star) (searchable s ready .within) u w)

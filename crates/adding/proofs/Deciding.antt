@@ -1,7 +1,7 @@
 -- The ends of a line and what an addition comes to, from the tests that the code makes.
 use Prim.Native.Nat.{ℕ, suc, _+_, _*_, _/_, _<_, _≤_}
 use native.Mathlib.Numerals.{add-one}
-use mathlib.Core.Path.{_≡_, refl, sym, ap, ap₂, _∙_}
+use mathlib.Core.Path.{_≡_, sym, ap, ap₂, _∙_}
 use mathlib.Core.Bool.{Bool, true, false, cond, _&&_}
 use lib.Dec.{eqb}
 use Rattle.geometry.specs.declared.Line3D.{Line3D}
@@ -31,11 +31,6 @@ module _ (nodes : ℕ) (u w : NodeId) where
   pub ends-old : (eqb (u .0) nodes && eqb (w .0) nodes) ≡ false
       → _≡_ {A = Ends} (record { start = u; end = w; «new_start» = eqb (u .0) nodes; «new_end» = eqb (w .0) nodes }) (endsBy nodes (u .0) (w .0))
   ends-old e = λ i. record { start = u; end = record { 0 = sym (ap (λ p. cond p (suc nodes) (w .0)) e) i }; «new_start» = eqb (u .0) nodes; «new_end» = eqb (w .0) nodes }
-
--- and false
-pub and-false : (a b : Bool) → b ≡ false → (a && b) ≡ false
-and-false true b e = e
-and-false false b e = refl
 
 module _ (l : Limits) (g : Line3D) (nodes edges u w h : ℕ) where
   -- what the addition comes to

@@ -14,7 +14,7 @@ use Rattle.geometry.proofs.Integers.{natAbs-add, natAbs-sub, mul-bound}
 use Rattle.geometry.proofs.Exact.{coordinate-bound}
 use Rattle.lists.specs.Lists.{In, Each}
 use Rattle.lists.proofs.Counts.{in-head, in-tail}
-use Rattle.lists.proofs.Members.{both}
+use Rattle.lists.proofs.Tests.{both}
 use Rattle.rules.specs.Limits.{Limits, Fine}
 use Rattle.rules.specs.HalfEdge.{twin}
 use Rattle.rules.specs.Cycles.{halves, cycle}

@@ -8,7 +8,7 @@ use lib.ListN.{length, take, length-map}
 use lib.Ieee.{Float}
 use borrow.Author.Tests.{eq-eqb, leb-true}
 use Rattle.lists.specs.Lists.{flatten}
-use Rattle.lists.proofs.Members.{both}
+use Rattle.lists.proofs.Tests.{both}
 use Rattle.geometry.specs.Reply.{success}
 use Rattle.rules.specs.Limits.{Limits}
 use Rattle.rules.specs.Cycles.{Arrangement}

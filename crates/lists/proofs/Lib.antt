@@ -1,5 +1,6 @@
 -- Laws of lists of numbers. Membership is a count, so that arithmetic decides most of it.
 pub mod Counts
+pub mod Tests
 pub mod Sums
 pub mod Members
 pub mod Rounds

@@ -6,7 +6,7 @@ use mathlib.Core.Bool.{Bool, true}
 use mathlib.Core.List.{List, [], _∷_, _++_}
 use Rattle.lists.specs.Lists.{upto, keep, pick, all, In}
 use Rattle.lists.proofs.Counts.{in-head, in-tail}
-use Rattle.lists.proofs.Members.{both}
+use Rattle.lists.proofs.Tests.{both}
 
 -- one more member that passes
 all-more : (p : ℕ → Bool) (l : List ℕ) (x : ℕ) → all p l ≡ true → p x ≡ true → all p (l ++ (x ∷ [])) ≡ true

@@ -8,8 +8,8 @@ use lib.Dec.{eqb}
 use lib.Ieee.{Float}
 use lib.ListN.{length, getD, take}
 use borrow.Author.Tests.{eqb-true}
-use Rattle.lists.proofs.Members.{both}
 use Rattle.lists.proofs.Searching.{first-pick}
+use Rattle.lists.proofs.Tests.{both}
 use Rattle.chains.specs.Chains.{lowestOf}
 use Rattle.chains.proofs.Walking.{lowest-upto, lowest-take}
 use Rattle.rotation.specs.Rotation.{Key, keySame}

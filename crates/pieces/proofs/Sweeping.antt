@@ -12,9 +12,10 @@ use borrow.Author.Tests.{eq-eqb, ne-eqb}
 use Rattle.lists.specs.Lists.{below, bit, keep, pick, countOf, In, Distinct}
 use Rattle.lists.specs.Sort.{sorted}
 use Rattle.lists.proofs.Counts.{by-test, by-eq, bit-same, bit-other, true-is-false, count-append, count-same}
-use Rattle.lists.proofs.Members.{both, pick-in, in-pick, pick-no, pick-append, distinct-pick, in-at, below-in, in-below, below-once}
+use Rattle.lists.proofs.Members.{pick-in, in-pick, pick-no, pick-append, distinct-pick, in-at, below-in, in-below, below-once}
 use Rattle.lists.proofs.Sums.{length-same}
 use Rattle.lists.proofs.Sorting.{Ordered, count-sorted, take-before}
+use Rattle.lists.proofs.Tests.{both, both-true}
 use Rattle.rules.specs.Euler.{touched}
 use Rattle.rules.specs.Paths.{Path}
 use Rattle.rules.specs.Pieces.{seedBefore, seedOf, isSeed, pieceOf}
@@ -24,7 +25,6 @@ use Rattle.rules.proofs.Orders.{never-self}
 use Rattle.rules.proofs.PieceCounts.{one-count}
 use Rattle.rules.proofs.PieceNumbers.{order-seeds, decides-seeds, is-seed-is, piece-is, nodes-are, path-seed, seed-path, seed-first, seed-inside, seed-passes, seeds-one, path-piece}
 use Rattle.rules.proofs.Roots.{rootOf, path-here, path-back, path-root, path-touched, root-joins}
-use Rattle.rules.proofs.Values.{both-true}
 use Rattle.pieces.specs.Numbers.{isLowest, seedsOf, Numbered}
 use Rattle.pieces.proofs.Lowest.{lowest-touched, seed-lowest}
 use Rattle.pieces.proofs.SeedOrder.{Any, seeds-order, seeds-ordered}

@@ -15,8 +15,9 @@ use Rattle.geometry.specs.declared.Coord3D.{Coord3D}
 use Rattle.geometry.specs.declared.Line3D.{Line3D}
 use Rattle.lists.specs.Lists.{upto, bit, countOf, pick, keep}
 use Rattle.lists.proofs.Counts.{by-test, by-eq, by-lt, true-is-false, bit-same, bit-other, count-append}
-use Rattle.lists.proofs.Members.{both, pick-append, pick-none}
+use Rattle.lists.proofs.Members.{pick-append, pick-none}
 use Rattle.lists.proofs.Passing.{pick-agree}
+use Rattle.lists.proofs.Tests.{both, both-true}
 use Rattle.rotation.specs.Rotation.{Key, keySame}
 use Rattle.rules.specs.Keys.{keyOf}
 use Rattle.rules.specs.Limits.{Limits}
@@ -24,7 +25,7 @@ use Rattle.rules.specs.State.{State, starOf, nodeKey, roomy, sound, soun
 use Rattle.rules.specs.Adding.{Outcome, demand, findNode, findHalf, withNode, withEdge, Nothing, add}
 use Rattle.rules.proofs.Twin.{by-halves}
 use Rattle.rules.proofs.Soundness.{Roomy, SoundEnds, Fresh, Sound, is-roomy, is-sound}
-use Rattle.rules.proofs.Sounding.{and-true, roomy-true, sound-true}
+use Rattle.rules.proofs.Sounding.{roomy-true, sound-true}
 use Rattle.rules.proofs.SketchCalls.{first-passes, upto-below}
 use Rattle.rules.proofs.Tables.{starTable, star-table-only, source-below}
 
@@ -361,7 +362,7 @@ keys-meet : (a p q : Key) → keySame a p ≡ true → keySame a q ≡ true → 
 keys-meet a p q hp hq =
     let x = both (eqb (a .x) (p .x)) (eqb (a .y) (p .y)) hp in
     let y = both (eqb (a .x) (q .x)) (eqb (a .y) (q .y)) hq in
-    and-true _ _
+    both-true _ _
     (eq-eqb (p .x) (q .x) (sym (eqb-true (a .x) (p .x) (x .0)) ∙ eqb-true (a .x) (q .x) (y .0)))
     (eq-eqb (p .y) (q .y) (sym (eqb-true (a .y) (p .y) (x .1)) ∙ eqb-true (a .y) (q .y) (y .1)))
 

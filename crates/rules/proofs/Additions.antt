@@ -21,7 +21,7 @@ use Rattle.rules.specs.Adding.{Outcome, demand, findNode, withNode, with
 use Rattle.rules.specs.Sketch.{Sketch, noLine, pointAt, Call, samePoint, findPoint, withPoint, havePoint, joins, withLine, sketchAdd, feed}
 use Rattle.rules.specs.Claim.{isRefused}
 use Rattle.lists.proofs.Counts.{by-test, true-is-false}
-use Rattle.lists.proofs.Members.{both}
+use Rattle.lists.proofs.Tests.{both}
 use Rattle.rules.proofs.Soundness.{Roomy, Sound}
 use Rattle.rules.proofs.Sketches.{Good}
 use Rattle.rules.proofs.SketchCalls.{upto-below, find-is, Has, has-find, has-more, has-had, have-is}
@@ -55,7 +55,7 @@ unfolding findNode
 find-node-is s x y = refl
 
 -- both stored coordinates are whole numbers within the bound
-coordinates-both : (l : Limits) (s : State) (n : ℕ) → soundCoordinates l s n ≡ true
+pub coordinates-both : (l : Limits) (s : State) (n : ℕ) → soundCoordinates l s n ≡ true
     → (coordinate (l .bound) (getD (s .nodeX) n nan) ≡ true) × (coordinate (l .bound) (getD (s .nodeY) n nan) ≡ true)
 unfolding soundCoordinates
 coordinates-both l s n e = both (coordinate (l .bound) (getD (s .nodeX) n nan)) (coordinate (l .bound) (getD (s .nodeY) n nan)) e

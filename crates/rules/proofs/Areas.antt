@@ -15,7 +15,7 @@ use Rattle.geometry.proofs.Exact.{add-ofInt, sub-ofInt}
 use Rattle.geometry.proofs.Steps.{Sized, sized-mul, of-coordinate}
 use Rattle.lists.specs.Lists.{In, Each}
 use Rattle.lists.proofs.Counts.{by-test, in-head, in-tail}
-use Rattle.lists.proofs.Members.{both}
+use Rattle.lists.proofs.Tests.{both}
 use Rattle.rules.specs.Limits.{Limits, Fine}
 use Rattle.rules.specs.HalfEdge.{twin}
 use Rattle.rules.specs.Cycles.{walk, cycle, halves}

@@ -116,7 +116,7 @@ pub record Went {A L : Type 0} (s : State) (stage : ℕ) (o : Outcome A L) : Typ
   pub edges : o .state .edges ≡ s .edges
 
 -- a test that passes
-demand-is : {A L : Type 0} (b : Bool) (n : ℕ) (s : State) (lists : L) (o : Outcome A L) → b ≡ true → demand b n s lists o ≡ o
+pub demand-is : {A L : Type 0} (b : Bool) (n : ℕ) (s : State) (lists : L) (o : Outcome A L) → b ≡ true → demand b n s lists o ≡ o
 demand-is true n s lists o e = refl
 demand-is false n s lists o e = absurd (true-is-false (sym e))
 

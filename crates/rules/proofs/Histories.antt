@@ -8,6 +8,7 @@ use lib.Dec.{eqb, ltb, leb}
 use lib.ListN.{length}
 use borrow.Author.Tests.{eqb-true, not-true}
 use Rattle.lists.specs.Lists.{upto, flatten, over}
+use Rattle.lists.proofs.Tests.{both}
 use Rattle.rules.specs.Keys.{keyOf}
 use Rattle.rotation.specs.Rotation.{keySame}
 use Rattle.rules.specs.Limits.{Limits, Fine, limits}
@@ -19,7 +20,6 @@ use Rattle.rules.specs.Stages.{step, next, sortedStar, sort, pruneStep, 
 use Rattle.rules.specs.Ringing.{RingLists, longEnough, ringStep}
 use Rattle.rules.specs.Sketch.{Sketch, pointAt, Call, adding, sorting, pruning, cutting, ringing, resetting, withLine, sketchAdd, sketchPrune, sketchCut, sketchReset, feed}
 use Rattle.rules.specs.Claim.{isRefused, call, World, turnWorld, history, emptySketch, Claim, Given64, Real, AllReal, SoundClaim}
-use Rattle.lists.proofs.Members.{both}
 use Rattle.rules.proofs.Soundness.{Roomy, Sound, is-roomy, is-sound}
 use Rattle.rules.proofs.Sketches.{Good}
 use Rattle.rules.proofs.SketchCalls.{remark-length, remark-from, remark-to, good-feed, good-empty}

@@ -9,8 +9,8 @@ use lib.Dec.{eqb}
 use lib.ListN.{length, getD}
 use Rattle.lists.specs.Lists.{upto, below, flatten, over, In, countOf}
 use Rattle.lists.specs.Sort.{sorted}
-use Rattle.lists.proofs.Counts.{by-test, by-eq, true-is-false}
-use Rattle.lists.proofs.Sorting.{Strict, count-sorted, sorted-agree, sorted-again}
+use Rattle.lists.proofs.Counts.{by-eq, true-is-false}
+use Rattle.lists.proofs.Sorting.{count-sorted, sorted-agree, sorted-again}
 use Rattle.geometry.specs.Angle.{Point}
 use Rattle.rules.specs.HalfEdge.{twin}
 use Rattle.rules.specs.Angle.{angleBefore}

@@ -5,6 +5,7 @@ pub mod CycleLaws
 pub mod Partition
 pub mod LabelLaws
 pub mod Permuting
+pub mod Framing
 -- procedures that walk and mark
 pub mod Marking
 pub mod Sweep

@@ -1,6 +1,6 @@
 -- Naming makes few comparisons: a ring of n half-edges takes at most 3 n - 3, so a ring extraction at most 3 for each half-edge replied,
 -- less 3 for each ring of two or more.
-use Prim.Native.Nat.{ℕ, _+_, _*_, _<_, _≤_}
+use Prim.Native.Nat.{ℕ, _+_, _*_, _≤_}
 use native.Mathlib.Omega.{arith}
 use mathlib.Core.Path.{_≡_, refl, sym, ap, subst, _∙_}
 use mathlib.Core.List.{List, [], _∷_, map}
@@ -16,7 +16,7 @@ use Rattle.rotation.proofs.Steps.{few-comparisons, no-comparisons}
 use Rattle.rules.specs.Cycles.{Arrangement}
 use Rattle.rules.specs.Split.{minimalRings}
 use Rattle.rules.specs.Face.{ringKeys}
-use Rattle.rules.specs.Naming.{namingComparisons, several, FewComparisons}
+use Rattle.rules.specs.Naming.{namingComparisons, FewComparisons}
 use Rattle.rules.specs.Limits.{Limits}
 use Rattle.rules.specs.State.{State, arrangement, nodeKey}
 use Rattle.rules.specs.Ringing.{RingLists, Ringing, ringsOf, ringed, ringStep}

@@ -1,19 +1,16 @@
 -- From facts to the tests of a state: tables that are long enough pass number 6, the soundness list passes number 7.
 use Prim.Native.Nat.{ℕ, _+_, _*_}
-use mathlib.Core.Path.{_≡_, refl, sym, ap, ap₂, _∙_}
+use mathlib.Core.Path.{_≡_, refl, sym, ap, _∙_}
 use mathlib.Core.Bool.{Bool, true, false, _&&_, _||_, Bool·beq, not}
 use lib.Dec.{ltb, leb}
 use lib.ListN.{getD}
 use borrow.Author.Tests.{eq-eqb, ne-eqb, lt-ltb, le-leb, ltb-false}
 use Rattle.lists.specs.Lists.{upto, all}
 use Rattle.lists.proofs.Passing.{all-upto}
+use Rattle.lists.proofs.Tests.{both-true}
 use Rattle.rules.specs.Limits.{Limits}
 use Rattle.rules.specs.State.{State, roomy, sound, soundEnds, soundTwins, soundStar, soundCoordinates, fresh}
 use Rattle.rules.proofs.Soundness.{Roomy, SoundEnds, Fresh, Sound}
-
--- both tests pass
-pub and-true : (a b : Bool) → a ≡ true → b ≡ true → (a && b) ≡ true
-and-true a b p q = ap₂ (λ x y. x && y) p q
 
 -- one of two tests passes
 or-true : (a b : Bool) → (a ≡ false → b ≡ true) → (a || b) ≡ true
@@ -31,23 +28,23 @@ same-mark false true e = e
 pub roomy-true : (l : Limits) (s : State) → Roomy l s → roomy l s ≡ true
 unfolding roomy
 roomy-true l s r =
-    and-true _ _ (le-leb _ _ (r .nodeX)) (and-true _ _ (le-leb _ _ (r .nodeY)) (and-true _ _ (le-leb _ _ (r .nodeZ)) (and-true _ _ (le-leb _ _ (r .degree))
-    (and-true _ _ (le-leb _ _ (r .nodeMark)) (and-true _ _ (le-leb _ _ (r .segment)) (and-true _ _ (le-leb _ _ (r .lineId)) (and-true _ _ (le-leb _ _ (r .source))
-    (and-true _ _ (le-leb _ _ (r .target)) (and-true _ _ (le-leb _ _ (r .halfMark)) (le-leb _ _ (r .star)))))))))))
+    both-true _ _ (le-leb _ _ (r .nodeX)) (both-true _ _ (le-leb _ _ (r .nodeY)) (both-true _ _ (le-leb _ _ (r .nodeZ)) (both-true _ _ (le-leb _ _ (r .degree))
+    (both-true _ _ (le-leb _ _ (r .nodeMark)) (both-true _ _ (le-leb _ _ (r .segment)) (both-true _ _ (le-leb _ _ (r .lineId)) (both-true _ _ (le-leb _ _ (r .source))
+    (both-true _ _ (le-leb _ _ (r .target)) (both-true _ _ (le-leb _ _ (r .halfMark)) (le-leb _ _ (r .star)))))))))))
 
 -- one edge
 ends-true : (s : State) (k : ℕ) → SoundEnds s k → soundEnds s k ≡ true
 unfolding soundEnds
 ends-true s k e =
-    and-true _ _ (lt-ltb _ _ (e .from)) (and-true _ _ (lt-ltb _ _ (e .to)) (and-true _ _ (ap not (ne-eqb _ _ (e .different)))
-    (and-true _ _ (eq-eqb _ _ (e .twinFrom)) (eq-eqb _ _ (e .twinTo)))))
+    both-true _ _ (lt-ltb _ _ (e .from)) (both-true _ _ (lt-ltb _ _ (e .to)) (both-true _ _ (ap not (ne-eqb _ _ (e .different)))
+    (both-true _ _ (eq-eqb _ _ (e .twinFrom)) (eq-eqb _ _ (e .twinTo)))))
 
 -- a fresh state
 fresh-true : (s : State) → Fresh s → fresh s ≡ true
 unfolding fresh
 fresh-true s f =
-    and-true _ _
-    (all-upto _ (s .nodes) (λ n l. and-true _ _ (ap not (f .unmarked n l)) (eq-eqb _ _ (f .degrees n l))))
+    both-true _ _
+    (all-upto _ (s .nodes) (λ n l. both-true _ _ (ap not (f .unmarked n l)) (eq-eqb _ _ (f .degrees n l))))
     (all-upto _ (2 * s .edges) (λ h l. ap not (f .halves h l)))
 
 -- the tests as one list, shut
@@ -67,8 +64,8 @@ pub sound-true : (l : Limits) (s : State) → Sound l s → sound l s ≡ true
 unfolding soundStar
 sound-true l s r =
     sym (sound-of l s)
-    ∙ and-true _ _ (le-leb _ _ (r .nodes)) (and-true _ _ (le-leb _ _ (r .edges)) (and-true _ _ (le-leb _ _ (r .stage))
-    (and-true _ _ (all-upto (soundEnds s) (s .edges) (λ k l. ends-true s k (r .ends k l)))
-    (and-true _ _ (all-upto (soundTwins s) (s .edges) (λ k l. twins-true s k (r .twins k l)))
-    (and-true _ _ (all-upto (soundStar s) (2 * s .edges) (λ h l. eq-eqb _ _ (r .stars h l)))
-    (and-true _ _ (all-upto (soundCoordinates l s) (s .nodes) (λ n h. r .coordinates n h)) (or-true (ltb 1 (s .stage)) (fresh s) (λ e. fresh-true s (r .new (ltb-false 1 (s .stage) e))))))))))
+    ∙ both-true _ _ (le-leb _ _ (r .nodes)) (both-true _ _ (le-leb _ _ (r .edges)) (both-true _ _ (le-leb _ _ (r .stage))
+    (both-true _ _ (all-upto (soundEnds s) (s .edges) (λ k l. ends-true s k (r .ends k l)))
+    (both-true _ _ (all-upto (soundTwins s) (s .edges) (λ k l. twins-true s k (r .twins k l)))
+    (both-true _ _ (all-upto (soundStar s) (2 * s .edges) (λ h l. eq-eqb _ _ (r .stars h l)))
+    (both-true _ _ (all-upto (soundCoordinates l s) (s .nodes) (λ n h. r .coordinates n h)) (or-true (ltb 1 (s .stage)) (fresh s) (λ e. fresh-true s (r .new (ltb-false 1 (s .stage) e))))))))))

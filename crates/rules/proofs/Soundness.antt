@@ -1,7 +1,7 @@
 -- What the tests of a state say: tables that are long enough, and the soundness list.
 use Prim.Native.Nat.{ℕ, _+_, _*_, _<_, _≤_}
 use mathlib.Core.Path.{_≡_, refl, sym, _∙_}
-use mathlib.Core.Bool.{Bool, true, false, _&&_, _||_, Bool·beq, not}
+use mathlib.Core.Bool.{Bool, true, false, _&&_, _||_, Bool·beq, not, and-false}
 use lib.Dec.{eqb, ltb, leb}
 use lib.ListN.{length, getD, take}
 use borrow.Author.Tests.{eqb-true, eqb-false, ltb-true, leb-true, not-true, le-ltb}
@@ -9,12 +9,8 @@ use Rattle.lists.specs.Lists.{upto, all, countOf}
 use Rattle.rules.specs.Limits.{Limits}
 use Rattle.rules.specs.State.{State, starOf, roomy, sound, soundEnds, soundTwins, soundStar, soundCoordinates, fresh}
 use Rattle.lists.proofs.Counts.{true-is-false}
-use Rattle.lists.proofs.Members.{both, all-below}
-
--- and false
-and-false : (a : Bool) → (a && false) ≡ false
-and-false true = refl
-and-false false = refl
+use Rattle.lists.proofs.Members.{all-below}
+use Rattle.lists.proofs.Tests.{both}
 
 -- a part without which the whole fails
 part : (x whole : Bool) → whole ≡ true → (x ≡ false → whole ≡ false) → x ≡ true

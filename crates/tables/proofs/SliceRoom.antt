@@ -6,14 +6,14 @@ use mathlib.Core.Bool.{Bool, true, _&&_}
 use mathlib.Core.List.{List}
 use lib.Dec.{leb}
 use lib.Ieee.{Float}
-use lib.ListN.{length, take, drop, length-take, length-drop}
+use lib.ListN.{length, drop, length-take, length-drop}
 use borrow.Author.Tests.{leb-true, le-leb}
 use Rattle.lists.proofs.Counts.{by-test, true-is-false}
-use Rattle.lists.proofs.Members.{both}
+use Rattle.lists.proofs.Tests.{both, both-true}
 use Rattle.rules.specs.Limits.{Limits}
 use Rattle.rules.specs.State.{State, roomy}
 use Rattle.rules.proofs.Soundness.{Roomy, is-roomy}
-use Rattle.rules.proofs.Sounding.{and-true, roomy-true}
+use Rattle.rules.proofs.Sounding.{roomy-true}
 use Rattle.tables.specs.declared.PlanarGraph.{PlanarGraph}
 use Rattle.tables.specs.Regions.{stateIn, leastFloats, leastNumbers, leastStars, leastMarks, leastIds, SliceRoom}
 
@@ -64,7 +64,7 @@ module _ (l : Limits) (g : PlanarGraph) (floats : List Float) (numbers stars : L
   -- slices with room pass the five tests
   room-fits : SliceRoom l floats numbers stars marks ids → fits ≡ true
   room-fits r =
-      and-true _ _ (and-true _ _ (and-true _ _ (and-true _ _ (le-leb _ _ (r .floatRoom)) (le-leb _ _ (r .numberRoom))) (le-leb _ _ (r .starRoom)))
+      both-true _ _ (both-true _ _ (both-true _ _ (both-true _ _ (le-leb _ _ (r .floatRoom)) (le-leb _ _ (r .numberRoom))) (le-leb _ _ (r .starRoom)))
       (le-leb _ _ (r .markRoom))) (le-leb _ _ (r .idRoom))
 
   -- and slices that pass have room

@@ -8,7 +8,8 @@ use lib.Dec.{eqb, ltb, leb}
 use lib.ListN.{length, getD, take}
 use borrow.Author.Tests.{eqb-true, leb-true, lt-ltb, le-ltb}
 use Rattle.lists.specs.Lists.{upto, all, countOf}
-use Rattle.lists.proofs.Members.{both, all-below}
+use Rattle.lists.proofs.Members.{all-below}
+use Rattle.lists.proofs.Tests.{both}
 use Rattle.rules.specs.Limits.{Limits}
 use Rattle.rules.specs.State.{State, starOf, sound, soundEnds, soundTwins, soundStar, soundCoordinates, fresh}
 use Rattle.rules.proofs.Soundness.{SoundEnds, sound-ends}

@@ -16,7 +16,8 @@ use Rattle.lists.proofs.Members.{pick-yes, pick-no, in-at, full, all-below, len
 use Rattle.rules.specs.State.{starIn}
 use Rattle.rules.proofs.Values.{getD-map-upto}
 use Rattle.tables.specs.Tests.{standsOnce, startsAt}
-use Rattle.tables.proofs.Testing.{all-fails, all-pass}
+use Rattle.lists.proofs.Passing.{all-upto}
+use Rattle.tables.proofs.Testing.{all-fails}
 
 -- ---- counting entry by entry
 
@@ -77,7 +78,7 @@ module _ (n : ℕ) (star : List ℕ) (i : ℕ) (long : n ≤ length star) (more 
 
 -- after all entries each stands there once
 pub seen-all : (n : ℕ) (star : List ℕ) (seen : List Bool) → n ≤ length star → Seen n star n seen → true ≡ all (standsOnce n star) (upto n)
-seen-all n star seen long s = sym (all-pass (standsOnce n star) n (λ v q. eq-eqb (countOf v (take n star)) 1 (by-eq (countOf v (take n star)) 0
+seen-all n star seen long s = sym (all-upto (standsOnce n star) n (λ v q. eq-eqb (countOf v (take n star)) 1 (by-eq (countOf v (take n star)) 0
     (λ none. absurd (omega (arith, length-take n star, pigeonhole n (v ∷ take n star) (past v q) (most v none))))
     (λ some. omega (arith, s .marks v q, bit-le (getD seen v false))))))
   where

@@ -3,16 +3,11 @@ use Prim.Native.Nat.{ℕ, zero, suc, _+_, _<_}
 use native.Mathlib.Numerals.{add-one}
 use native.Mathlib.Omega.{arith}
 use mathlib.Core.Path.{_≡_, refl, sym, ap, _∙_}
-use mathlib.Core.Bool.{Bool, true, false, _&&_}
-use mathlib.Core.List.{List, [], _∷_, _++_}
+use mathlib.Core.Bool.{Bool, true, false}
+use mathlib.Core.List.{[], _∷_}
 use Rattle.lists.specs.Lists.{upto, all}
 use Rattle.lists.proofs.Counts.{by-test, true-is-false}
-use Rattle.lists.proofs.Members.{all-below}
-
--- a test of both parts
-all-append : (p : ℕ → Bool) (xs ys : List ℕ) → all p (xs ++ ys) ≡ (all p xs && all p ys)
-all-append p [] ys = refl
-all-append p (x ∷ xs) ys = by-test (p x) (λ e. rw e (all-append p xs ys)) (λ e. rw e)
+use Rattle.lists.proofs.Members.{all-below, all-append}
 
 -- one more number that passes
 pub all-more : (p : ℕ → Bool) (i : ℕ) → all p (upto i) ≡ true → p i ≡ true → all p (upto (i + 1)) ≡ true
@@ -25,11 +20,6 @@ all-fails p n i h e = by-test (all p (upto n)) (λ t. absurd (true-is-false (sym
 -- none left
 pub all-ends : (p : ℕ → Bool) (n i : ℕ) → i ≡ n → all p (upto i) ≡ true → true ≡ all p (upto n)
 all-ends p n i q a = sym (ap (λ k. all p (upto k)) (sym q) ∙ a)
-
--- every number passes
-pub all-pass : (p : ℕ → Bool) (n : ℕ) → ((i : ℕ) → i < n → p i ≡ true) → all p (upto n) ≡ true
-all-pass p zero e = refl
-all-pass p (suc n) e = all-append p (upto n) (n ∷ []) ∙ rw (all-pass p n (λ i h. e i (omega arith)), e n (omega arith))
 
 -- tests that agree below n
 pub all-agree : (p q : ℕ → Bool) (n : ℕ) → ((i : ℕ) → i < n → p i ≡ q i) → all p (upto n) ≡ all q (upto n)

@@ -1,0 +1,26 @@
+-- Laws of && and || : what a test of two parts says of each, and what each says of it.
+use mathlib.Core.Path.{_≡_, refl, sym, ap, _∙_}
+use mathlib.Core.Bool.{Bool, true, false, _&&_, _||_, and-false}
+use Rattle.lists.proofs.Counts.{true-is-false}
+
+-- both parts of a test
+pub both : (a b : Bool) → (a && b) ≡ true → (a ≡ true) × (b ≡ true)
+both true b e = (refl, e)
+both false b e = absurd (true-is-false (sym e))
+
+-- both parts hold
+pub both-true : (a b : Bool) → a ≡ true → b ≡ true → (a && b) ≡ true
+both-true a b p q = λ i. p i && q i
+
+-- the first part fails
+pub no-left : (a b : Bool) → a ≡ false → (a && b) ≡ false
+no-left a b e = ap (λ (t : Bool). t && b) e
+
+-- the second part fails
+pub no-right : (a b : Bool) → b ≡ false → (a && b) ≡ false
+no-right a b e = ap (λ (t : Bool). a && t) e ∙ and-false a
+
+-- the second of two holds
+pub or-right : (a b : Bool) → b ≡ true → (a || b) ≡ true
+or-right true b e = refl
+or-right false b e = e
