@@ -56,7 +56,7 @@ module _ {C : Type 0} (l : Limits) (s : State) (rest : Checked) where
       go true e true t = h (record { room = e; sense = t }) (sym (check-rest l s rest e t))
 
 -- a call that passed was not refused
-never : {why : Refusal} → Passed ≡ Refused why → ⊥
+pub never : {why : Refusal} → Passed ≡ Refused why → ⊥
 never q = let z : _≡_ {A = ℕ} 0 1 = cc in omega arith
 
 -- the tests passed: the state is sound

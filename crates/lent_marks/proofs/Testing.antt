@@ -19,7 +19,7 @@ use Rattle.tables.specs.declared.Refusal.{Refusal}
 use Rattle.tables.specs.declared.Refusal.the-variants.{TableTooShort, Unsound}
 use Rattle.calls.specs.declared.checks.Checked.{Checked}
 use Rattle.calls.specs.declared.checks.Checked.the-variants.{Passed, Refused}
-use Rattle.calls.proofs.Shells.{turnedDown}
+use Rattle.calls.proofs.Shells.{turnedDown, never}
 use Rattle.lent_marks.specs.Marks.{isSet, marksIn, lentState}
 
 -- how many marks the bytes hold
@@ -60,10 +60,6 @@ module _ (l : Limits) (g : PlanarGraph) (floats : List Float) (numbers stars byt
 -- what is due, by what the two tests came to
 abbrev pub checkedBy : Bool → Bool → Checked
 checkedBy roomy plain = cond roomy (cond plain Passed (Refused Unsound)) (Refused TableTooShort)
-
--- a call that passed was not refused
-never : {why : Refusal} → Passed ≡ Refused why → ⊥
-never q = let z : _≡_ {A = ℕ} 0 1 = cc in omega arith
 
 -- one that was refused has one reason
 same : {why why′ : Refusal} → Refused why ≡ Refused why′ → why ≡ why′

@@ -34,19 +34,19 @@ pub fn has_room(floats: &[f64], numbers: &[u16], stars: &[u16], marks: &[u8], id
         & (IDS <= ids.len())
 }
 
-// The first bytes are 0 or 1.
+// The first bytes are 0 or 1. It goes on past a bad one: a loop with one way out takes many bytes at a
+// time, and a good row has to be read to its end anyway.
 fn are_marks(count: usize, bytes: &[u8]) -> bool
     requires { ⌜ count ≤ length (now bytes) ⌝ }
     ensures { λ r. ⌜ r ≡ all (markAt (now (bytes .entry))) (upto count) ⌝ }
 {
+    let mut good = true;
     let mut i = 0;
     while i < count {
-        if 1 < bytes[i] {
-            return false;
-        }
+        good = good & (bytes[i] < 2);
         i += 1;
     }
-    true
+    good
 }
 
 // The bytes in use, of nodes and of half-edges. Counts past the limits use bytes that are not there.

@@ -1,25 +1,27 @@
--- A test of all numbers below n, as a loop runs it: number by number, up to the first that fails.
+-- A test of all numbers below n, as a loop runs it: number by number.
 use Prim.Native.Nat.{ℕ, zero, suc, _+_, _<_}
 use native.Mathlib.Numerals.{add-one}
 use native.Mathlib.Omega.{arith}
-use mathlib.Core.Path.{_≡_, refl, sym, ap, _∙_}
-use mathlib.Core.Bool.{Bool, true, false}
+use mathlib.Core.Path.{_≡_, refl, sym, ap, ap₂, _∙_}
+use mathlib.Core.Bool.{Bool, true, false, _&&_, and-true}
 use mathlib.Core.List.{[], _∷_}
 use Rattle.lists.specs.Lists.{upto, all}
 use Rattle.lists.proofs.Counts.{by-test, true-is-false}
 use Rattle.lists.proofs.Members.{all-below, all-append}
 
--- one more number that passes
-pub all-more : (p : ℕ → Bool) (i : ℕ) → all p (upto i) ≡ true → p i ≡ true → all p (upto (i + 1)) ≡ true
-all-more p i a e = ap (λ n. all p (upto n)) (add-one i) ∙ all-append p (upto i) (i ∷ []) ∙ rw (a, e)
+-- one more number, by what was found so far and what it gives
+pub all-next : (p : ℕ → Bool) (i : ℕ) (good passes : Bool) → good ≡ all p (upto i) → passes ≡ p i → (good && passes) ≡ all p (upto (i + 1))
+all-next p i good passes a e =
+    ap₂ _&&_ a e
+    ∙ sym (ap (λ n. all p (upto n)) (add-one i) ∙ all-append p (upto i) (i ∷ []) ∙ ap (λ t. all p (upto i) && t) (and-true (p i)))
 
 -- one that fails
 pub all-fails : (p : ℕ → Bool) (n i : ℕ) → i < n → p i ≡ false → false ≡ all p (upto n)
 all-fails p n i h e = by-test (all p (upto n)) (λ t. absurd (true-is-false (sym (all-below p n t i h) ∙ e))) (λ t. sym t)
 
 -- none left
-pub all-ends : (p : ℕ → Bool) (n i : ℕ) → i ≡ n → all p (upto i) ≡ true → true ≡ all p (upto n)
-all-ends p n i q a = sym (ap (λ k. all p (upto k)) (sym q) ∙ a)
+pub all-found : (p : ℕ → Bool) (n i : ℕ) (good : Bool) → i ≡ n → good ≡ all p (upto i) → good ≡ all p (upto n)
+all-found p n i good q a = a ∙ ap (λ k. all p (upto k)) q
 
 -- tests that agree below n
 pub all-agree : (p q : ℕ → Bool) (n : ℕ) → ((i : ℕ) → i < n → p i ≡ q i) → all p (upto n) ≡ all q (upto n)

@@ -1,4 +1,6 @@
-// Number 7: the soundness list, a small function for each of its tests, and all of them in one.
+// Number 7: the soundness list, a small function for each of its tests, and all of them in one. A test
+// goes on past what fails it: a sound state is read to its end anyway, and a loop with one way out takes
+// many entries at a time.
 ghost use mathlib.Core.Path.{_≡_};
 ghost use mathlib.Core.Bool.{_&&_};
 ghost use mathlib.Core.List.{List};
@@ -46,14 +48,13 @@ fn all_ends_swap(nodes: u16, edges: usize, dir_edges_src: &[u16], dir_edges_dst:
     requires { ⌜ (2 * edges ≤ length (now «dir_edges_src»)) × (2 * edges ≤ length (now «dir_edges_dst»)) ⌝ }
     ensures { λ r. ⌜ r ≡ all (endsSwap nodes (now («dir_edges_src» .entry)) (now («dir_edges_dst» .entry))) (upto edges) ⌝ }
 {
+    let mut good = true;
     let mut k = 0;
     while k < edges {
-        if !ends_swap(nodes, dir_edges_src, dir_edges_dst, k) {
-            return false;
-        }
+        good = good & ends_swap(nodes, dir_edges_src, dir_edges_dst, k);
         k += 1;
     }
-    true
+    good
 }
 
 // Twins are marked alike.
@@ -61,15 +62,14 @@ fn all_twins_alike(edges: usize, dir_edges_marked: &[bool]) -> bool
     requires { ⌜ 2 * edges ≤ length (now «dir_edges_marked») ⌝ }
     ensures { λ r. ⌜ r ≡ all (twinsAlike (now («dir_edges_marked» .entry))) (upto edges) ⌝ }
 {
+    let mut good = true;
     let mut k = 0;
     while k < edges {
         let alike = is_marked(dir_edges_marked, 2 * k) == is_marked(dir_edges_marked, 2 * k + 1);
-        if !alike {
-            return false;
-        }
+        good = good & alike;
         k += 1;
     }
-    true
+    good
 }
 
 // Each half-edge stands once among as many entries of the star table: none is out of range and
@@ -99,15 +99,14 @@ fn all_lie_whole(nodes: usize, nodes_x: &[f64], nodes_y: &[f64]) -> bool
     requires { ⌜ (nodes ≤ length (now «nodes_x»)) × (nodes ≤ length (now «nodes_y»)) ⌝ }
     ensures { λ r. ⌜ r ≡ all (liesWhole (limits .bound) (now («nodes_x» .entry)) (now («nodes_y» .entry))) (upto nodes) ⌝ }
 {
+    let mut good = true;
     let mut n = 0;
     while n < nodes {
         let whole = geometry::is_coordinate(nodes_x[n]) & geometry::is_coordinate(nodes_y[n]);
-        if !whole {
-            return false;
-        }
+        good = good & whole;
         n += 1;
     }
-    true
+    good
 }
 
 // No mark is set.
@@ -115,14 +114,13 @@ fn none_marked(count: usize, marks: &[bool]) -> bool
     requires { ⌜ count ≤ length (now marks) ⌝ }
     ensures { λ r. ⌜ r ≡ all (unmarked (now (marks .entry))) (upto count) ⌝ }
 {
+    let mut good = true;
     let mut i = 0;
     while i < count {
-        if is_marked(marks, i) {
-            return false;
-        }
+        good = good & !is_marked(marks, i);
         i += 1;
     }
-    true
+    good
 }
 
 // No node is marked, and each degree is the count beside it.
@@ -135,15 +133,14 @@ fn nodes_fresh(
     requires { ⌜ (nodes ≤ limits .nodes) × (nodes ≤ length (now «nodes_degree»)) × (nodes ≤ length (now «nodes_marked»)) ⌝ }
     ensures { λ r. ⌜ r ≡ all (nodeFresh (now («nodes_marked» .entry)) (now («nodes_degree» .entry)) (now (counts .entry))) (upto nodes) ⌝ }
 {
+    let mut good = true;
     let mut n = 0;
     while n < nodes {
         let fresh = !is_marked(nodes_marked, n) & (nodes_degree[n] == counts[n]);
-        if !fresh {
-            return false;
-        }
+        good = good & fresh;
         n += 1;
     }
-    true
+    good
 }
 
 // What every state has to meet: ends, twins, stars and coordinates. In a sound state every test

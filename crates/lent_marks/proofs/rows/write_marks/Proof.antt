@@ -2,9 +2,10 @@
 use Prim.Native.Nat.{_≤_, _-_}
 use native.Mathlib.Omega.{arith}
 use native.Mathlib.Numerals.{add-one}
+use borrow.Author.Needs.{needs}
 use mathlib.Core.Path.{_≡_, refl, sym, ap, _∙_}
 use mathlib.Core.Bool.{false}
-use lib.ListN.{length, getD, take, set}
+use lib.ListN.{length, getD, take, set, length-set}
 use lib.Seq.{take-all}
 use Rattle.lent_marks.specs.Marks.{blend, blended}
 use Rattle.lent_marks.proofs.Blending.{blended-more}
@@ -20,11 +21,17 @@ abbrev μ-loop : tie.MeasureT-loop
 loop-holds : tie.Need-loop-holds Inv-loop μ-loop
 loop-holds c = (omega arith, refl, refl)
 
-shared-slice-read-write-mark : tie.Need-shared-slice-read-write-mark Inv-loop μ-loop
-shared-slice-read-write-mark c = omega arith
+shared-slice-read-with-mark : tie.Need-shared-slice-read-with-mark Inv-loop μ-loop
+shared-slice-read-with-mark c = omega arith
 
-write-mark-requires : tie.Need-write-mark-requires Inv-loop μ-loop
-write-mark-requires c κs = omega arith
+slice-read-with-mark : tie.Need-slice-read-with-mark Inv-loop μ-loop
+slice-read-with-mark c = omega arith
+
+with-mark-requires : tie.Need-with-mark-requires Inv-loop μ-loop
+with-mark-requires c κs = search needs
+
+slice-write-bytes : tie.Need-slice-write-bytes Inv-loop μ-loop
+slice-write-bytes c = omega arith
 
 add-i : tie.Need-add-i Inv-loop μ-loop
 add-i c = omega arith
@@ -34,22 +41,20 @@ loop-less c = omega arith
 
 loop-again : tie.Need-loop-again Inv-loop μ-loop
 loop-again c =
-    let w = c .before .before in
-    let k = w .before .before .before .before in
+    let k = c .before .before .before .before in
     let a = k .before .before .before .args in
     let row = a .row .now in
-    let at = k .loop .i in
-    let kept = w .write-mark .kept .1 .0 in (
+    let at = k .loop .i in (
       omega arith,
-      omega arith,
-      w .write-mark .ensures
+      simp length-set (k .loop .inv .1),
+      ap (set (k .loop .bytes) at) (c .with-mark .ensures)
           ∙ ap (λ t. set t at (blend (getD row at false) (getD t at 0))) (k .loop .inv .2)
           ∙ blended-more row (a .bytes .now) at (omega arith) (omega arith)
           ∙ ap (λ n. blended (take n row) (a .bytes .now)) (sym (add-one at)),
     )
 
 same-length : tie.Need-same-length Inv-loop μ-loop
-same-length c = omega arith
+same-length c = c .before .loop .inv .1
 
 returns : tie.Need-returns Inv-loop μ-loop
 returns c =
@@ -64,8 +69,10 @@ write-marks-spec =
     Inv-loop
     μ-loop
     loop-holds
-    shared-slice-read-write-mark
-    write-mark-requires
+    shared-slice-read-with-mark
+    slice-read-with-mark
+    with-mark-requires
+    slice-write-bytes
     add-i
     loop-less
     loop-again

@@ -1,22 +1,21 @@
--- `all_lie_whole` meets its contract: so far every number passed.
+-- `all_lie_whole` meets its contract: so far it says whether every number passed.
 use Prim.Native.Nat.{_≤_, _-_}
 use native.Mathlib.Omega.{arith}
 use borrow.Author.Needs.{needs}
-use mathlib.Core.Path.{_≡_, refl, sym, ap₂, _∙_}
-use mathlib.Core.Bool.{true, _&&_}
-use borrow.Author.Tests.{not-true, not-false}
+use mathlib.Core.Path.{_≡_, refl, ap₂}
+use mathlib.Core.Bool.{_&&_}
 use Rattle.lists.specs.Lists.{upto, all}
-use Rattle.tables.specs.Tests.{liesWhole}
 use Rattle.rules.specs.Limits.{limits}
-use Rattle.tables.proofs.Testing.{all-more, all-fails, all-ends}
+use Rattle.tables.specs.Tests.{liesWhole}
+use Rattle.tables.proofs.Testing.{all-next, all-found}
 use Rattle.tables.proofs.sound.all_lie_whole.Statement.{statement}
 use Rattle.tables.proofs.sound.all_lie_whole.Tie as tie
 
 abbrev Inv-loop : tie.InvT-loop
-Inv-loop nodes nodes-x nodes-y n₀ n = (n ≤ nodes) × (all (liesWhole (limits .bound) nodes-x nodes-y) (upto n) ≡ true)
+Inv-loop nodes nodes-x nodes-y good₀ n₀ good n = (n ≤ nodes) × (good ≡ all (liesWhole (limits .bound) nodes-x nodes-y) (upto n))
 
 abbrev μ-loop : tie.MeasureT-loop
-μ-loop nodes nodes-x nodes-y n₀ n = nodes - n
+μ-loop nodes nodes-x nodes-y good₀ n₀ good n = nodes - n
 
 loop-holds : tie.Need-loop-holds Inv-loop μ-loop
 loop-holds c = (omega arith, refl)
@@ -39,13 +38,6 @@ shared-slice-read-is-coordinate-2 c = omega arith
 is-coordinate-requires-2 : tie.Need-is-coordinate-requires-2 Inv-loop μ-loop
 is-coordinate-requires-2 c κs = search needs
 
-returns : tie.Need-returns Inv-loop μ-loop
-returns c =
-    let k = c .before .before .before .before .before .before in
-    let a = c .before .before .before .before .before .before .before .before .before .args in
-    all-fails (liesWhole (limits .bound) (a .nodes-x .now) (a .nodes-y .now)) (a .nodes) (k .loop .n) (omega arith)
-    (ap₂ _&&_ (sym (c .before .before .before .is-coordinate .ensures)) (sym (c .before .is-coordinate2 .ensures)) ∙ not-true _ (c .if1 .taken))
-
 add-n : tie.Need-add-n Inv-loop μ-loop
 add-n c = omega arith
 
@@ -54,19 +46,15 @@ loop-less c = omega arith
 
 loop-again : tie.Need-loop-again Inv-loop μ-loop
 loop-again c =
-    let k = c .before .before .before .before .before .before in
-    let a = c .before .before .before .before .before .before .before .before .before .args in (
-      omega arith,
-      all-more (liesWhole (limits .bound) (a .nodes-x .now) (a .nodes-y .now)) (k .loop .n) (k .loop .inv .1)
-          (ap₂ _&&_ (sym (c .before .before .before .is-coordinate .ensures)) (sym (c .before .is-coordinate2 .ensures)) ∙ not-false _ (c .if1 .left)),
-    )
+    let k = c .before .before .before .before .before in
+    let a = k .before .before .before .args in
+    (omega arith, all-next (liesWhole (limits .bound) (a .nodes-x .now) (a .nodes-y .now)) (k .loop .n) _ _ (k .loop .inv .1) (ap₂ _&&_ (c .before .before .is-coordinate .ensures) (c .is-coordinate2 .ensures)))
 
-returns-2 : tie.Need-returns-2 Inv-loop μ-loop
-returns-2 c =
+returns : tie.Need-returns Inv-loop μ-loop
+returns c =
     let k = c .before in
-    let a = c .before .before .before .before .args in
-    let e : k .loop .n ≡ a .nodes = omega arith in
-    all-ends (liesWhole (limits .bound) (a .nodes-x .now) (a .nodes-y .now)) (a .nodes) (k .loop .n) e (k .loop .inv .1)
+    let a = k .before .before .before .args in
+    all-found (liesWhole (limits .bound) (a .nodes-x .now) (a .nodes-y .now)) (a .nodes) (k .loop .n) _ (omega arith) (k .loop .inv .1)
 
 pub all-lie-whole-spec : {M : Type 1} → statement M
 all-lie-whole-spec =
@@ -81,8 +69,7 @@ all-lie-whole-spec =
     mul-is-coordinate-2
     shared-slice-read-is-coordinate-2
     is-coordinate-requires-2
-    returns
     add-n
     loop-less
     loop-again
-    returns-2)
+    returns)

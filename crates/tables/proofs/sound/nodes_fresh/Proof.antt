@@ -1,22 +1,21 @@
--- `nodes_fresh` meets its contract: so far every number passed.
+-- `nodes_fresh` meets its contract: so far it says whether every number passed.
 use Prim.Native.Nat.{_≤_, _-_}
 use native.Mathlib.Omega.{arith}
-use mathlib.Core.Path.{_≡_, refl, sym, ap, _∙_}
-use mathlib.Core.Bool.{true, _&&_, not}
-use lib.ListN.{getD}
+use mathlib.Core.Path.{_≡_, refl, ap}
+use mathlib.Core.Bool.{_&&_, not}
 use lib.Dec.{eqb}
-use borrow.Author.Tests.{not-true, not-false}
+use lib.ListN.{getD}
 use Rattle.lists.specs.Lists.{upto, all}
 use Rattle.tables.specs.Tests.{nodeFresh}
-use Rattle.tables.proofs.Testing.{all-more, all-fails, all-ends}
+use Rattle.tables.proofs.Testing.{all-next, all-found}
 use Rattle.tables.proofs.sound.nodes_fresh.Statement.{statement}
 use Rattle.tables.proofs.sound.nodes_fresh.Tie as tie
 
 abbrev Inv-loop : tie.InvT-loop
-Inv-loop nodes nodes-degree nodes-marked counts n₀ n = (n ≤ nodes) × (all (nodeFresh nodes-marked nodes-degree counts) (upto n) ≡ true)
+Inv-loop nodes nodes-degree nodes-marked counts good₀ n₀ good n = (n ≤ nodes) × (good ≡ all (nodeFresh nodes-marked nodes-degree counts) (upto n))
 
 abbrev μ-loop : tie.MeasureT-loop
-μ-loop nodes nodes-degree nodes-marked counts n₀ n = nodes - n
+μ-loop nodes nodes-degree nodes-marked counts good₀ n₀ good n = nodes - n
 
 loop-holds : tie.Need-loop-holds Inv-loop μ-loop
 loop-holds c = (omega arith, refl)
@@ -36,13 +35,6 @@ mul-fresh-2 c = omega arith
 element-copy-out-fresh : tie.Need-element-copy-out-fresh Inv-loop μ-loop
 element-copy-out-fresh c = omega arith
 
-returns : tie.Need-returns Inv-loop μ-loop
-returns c =
-    let k = c .before .before .before .before .before in
-    let a = c .before .before .before .before .before .before .before .before .args in
-    all-fails (nodeFresh (a .nodes-marked .now) (a .nodes-degree .now) (a .counts .now)) (a .nodes) (k .loop .n) (omega arith)
-    (ap (λ m. not m && eqb (getD (a .nodes-degree .now) (k .loop .n) 0) (getD (a .counts .now) (k .loop .n) 0)) (sym (c .before .before .before .is-marked .ensures)) ∙ not-true _ (c .if1 .taken))
-
 add-n : tie.Need-add-n Inv-loop μ-loop
 add-n c = omega arith
 
@@ -51,19 +43,15 @@ loop-less c = omega arith
 
 loop-again : tie.Need-loop-again Inv-loop μ-loop
 loop-again c =
-    let k = c .before .before .before .before .before in
-    let a = c .before .before .before .before .before .before .before .before .args in (
-      omega arith,
-      all-more (nodeFresh (a .nodes-marked .now) (a .nodes-degree .now) (a .counts .now)) (k .loop .n) (k .loop .inv .1)
-          (ap (λ m. not m && eqb (getD (a .nodes-degree .now) (k .loop .n) 0) (getD (a .counts .now) (k .loop .n) 0)) (sym (c .before .before .before .is-marked .ensures)) ∙ not-false _ (c .if1 .left)),
-    )
+    let k = c .before .before .before .before in
+    let a = k .before .before .before .args in
+    (omega arith, all-next (nodeFresh (a .nodes-marked .now) (a .nodes-degree .now) (a .counts .now)) (k .loop .n) _ _ (k .loop .inv .1) (ap (λ m. not m && eqb (getD (a .nodes-degree .now) (k .loop .n) 0) (getD (a .counts .now) (k .loop .n) 0)) (c .before .before .is-marked .ensures)))
 
-returns-2 : tie.Need-returns-2 Inv-loop μ-loop
-returns-2 c =
+returns : tie.Need-returns Inv-loop μ-loop
+returns c =
     let k = c .before in
-    let a = c .before .before .before .before .args in
-    let e : k .loop .n ≡ a .nodes = omega arith in
-    all-ends (nodeFresh (a .nodes-marked .now) (a .nodes-degree .now) (a .counts .now)) (a .nodes) (k .loop .n) e (k .loop .inv .1)
+    let a = k .before .before .before .args in
+    all-found (nodeFresh (a .nodes-marked .now) (a .nodes-degree .now) (a .counts .now)) (a .nodes) (k .loop .n) _ (omega arith) (k .loop .inv .1)
 
 pub nodes-fresh-spec : {M : Type 1} → statement M
 nodes-fresh-spec =
@@ -77,8 +65,7 @@ nodes-fresh-spec =
     shared-slice-read-fresh
     mul-fresh-2
     element-copy-out-fresh
-    returns
     add-n
     loop-less
     loop-again
-    returns-2)
+    returns)
