@@ -16,6 +16,7 @@ use tables::EdgeId;
 use tables::NodeId;
 use tables::PlanarGraph;
 use tables::Refusal;
+use tables::wide;
 
 mod search;
 
@@ -105,9 +106,9 @@ fn find_space(graph: PlanarGraph, ends: Ends) -> Decision
     requires { ⌜ graph .«node_count» ≤ limits .nodes ⌝ }
     ensures { λ r. ⌜ r ≡ roomDecision limits (graph .«node_count») (graph .«edge_count») ends ⌝ }
 {
-    let nodes = search::wide(graph.node_count) + search::wide(new_nodes(ends));
+    let nodes = wide(graph.node_count) + wide(new_nodes(ends));
     if nodes <= tables::MAX_NODES {
-        if search::wide(graph.edge_count) < tables::MAX_EDGES {
+        if wide(graph.edge_count) < tables::MAX_EDGES {
             Decision::Make(ends)
         } else {
             Decision::Refuse(Refusal::TooManyEdges)

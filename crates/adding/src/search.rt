@@ -14,19 +14,14 @@ use geometry::Coord3D;
 use tables::DirEdgeId;
 use tables::NodeId;
 use tables::PlanarGraph;
+use tables::wide;
 
-// A number of a table as an index.
-pub fn wide(n: u16) -> usize
-    ensures { λ r. ⌜ r ≡ n ⌝ }
+// Whether a node has the bits of a point's x and y.
+pub fn has_key(nodes_x: &[f64], nodes_y: &[f64], node: NodeId, bits_x: u64, bits_y: u64) -> bool
+    requires { ⌜ (node .0 < length (now «nodes_x»)) × (node .0 < length (now «nodes_y»)) ⌝ }
+    ensures { λ r. ⌜ r ≡ keySame (keyIn (now («nodes_x» .entry)) (now («nodes_y» .entry)) (node .0)) (record { x = «bits_x»; y = «bits_y» }) ⌝ }
 {
-    n as usize
-}
-
-// Whether the node at an index has the bits of a point's x and y.
-pub fn has_key(nodes_x: &[f64], nodes_y: &[f64], n: usize, bits_x: u64, bits_y: u64) -> bool
-    requires { ⌜ (n < length (now «nodes_x»)) × (n < length (now «nodes_y»)) ⌝ }
-    ensures { λ r. ⌜ r ≡ keySame (keyIn (now («nodes_x» .entry)) (now («nodes_y» .entry)) n) (record { x = «bits_x»; y = «bits_y» }) ⌝ }
-{
+    let n = wide(node.0);
     geometry::canonical_coordinate_bits(nodes_x[n]) == bits_x
         && geometry::canonical_coordinate_bits(nodes_y[n]) == bits_y
 }
@@ -42,7 +37,7 @@ pub fn find_node(graph: PlanarGraph, nodes_x: &[f64], nodes_y: &[f64], point: Co
     let count = graph.node_count;
     let mut n: u16 = 0;
     while n < count {
-        if has_key(nodes_x, nodes_y, wide(n), bits_x, bits_y) {
+        if has_key(nodes_x, nodes_y, NodeId(n), bits_x, bits_y) {
             return NodeId(n);
         }
         n += 1;
@@ -51,11 +46,18 @@ pub fn find_node(graph: PlanarGraph, nodes_x: &[f64], nodes_y: &[f64], point: Co
 }
 
 // Whether a half-edge goes from node u to node v.
-pub fn goes(dir_edges_src: &[u16], dir_edges_dst: &[u16], h: usize, u: u16, v: u16) -> bool
-    requires { ⌜ (h < length (now «dir_edges_src»)) × (h < length (now «dir_edges_dst»)) ⌝ }
-    ensures { λ r. ⌜ r ≡ (eqb (getD (now («dir_edges_src» .entry)) h 0) u && eqb (getD (now («dir_edges_dst» .entry)) h 0) v) ⌝ }
+pub fn goes(
+    dir_edges_src: &[u16],
+    dir_edges_dst: &[u16],
+    half: DirEdgeId,
+    u: NodeId,
+    v: NodeId,
+) -> bool
+    requires { ⌜ (half .0 < length (now «dir_edges_src»)) × (half .0 < length (now «dir_edges_dst»)) ⌝ }
+    ensures { λ r. ⌜ r ≡ (eqb (getD (now («dir_edges_src» .entry)) (half .0) 0) (u .0) && eqb (getD (now («dir_edges_dst» .entry)) (half .0) 0) (v .0)) ⌝ }
 {
-    dir_edges_src[h] == u && dir_edges_dst[h] == v
+    let h = wide(half.0);
+    dir_edges_src[h] == u.0 && dir_edges_dst[h] == v.0
 }
 
 // The first half-edge of u's star that ends at v, or the number of half-edges. The star is what of
@@ -73,12 +75,10 @@ pub fn find_half(
     ensures { λ r. ⌜ r .0 ≡ findHalfIn (graph .«edge_count») (now («dir_edges_src» .entry)) (now («dir_edges_dst» .entry)) (now («nodes_outgoing» .entry)) (u .0) (v .0) ⌝ }
 {
     let count = 2 * graph.edge_count;
-    let from = u.0;
-    let to = v.0;
     let mut i: u16 = 0;
     while i < count {
         let h = nodes_outgoing[wide(i)];
-        if goes(dir_edges_src, dir_edges_dst, wide(h), from, to) {
+        if goes(dir_edges_src, dir_edges_dst, DirEdgeId(h), u, v) {
             return DirEdgeId(h);
         }
         i += 1;

@@ -8,15 +8,15 @@ ghost use Rattle.rules.specs.SegmentFile.{readAt};
 ghost use Rattle.tables.specs.Regions.{stateIn};
 ghost use Rattle.intake.specs.Taking.{alone, takeRecord, takeRecords};
 ghost use Rattle.intake.specs.Answers.{replyOf, turnOf, takingOf};
-use crate::RECORD_BYTES;
 use crate::TakeReply;
 use crate::Taken;
 use crate::Turn;
-use crate::numbers::file_number;
-use crate::numbers::refusal_number;
 use adding::AddReply;
+use segment_file::RECORD_BYTES;
 use segment_file::Record;
+use segment_file::file_number;
 use tables::PlanarGraph;
+use tables::refusal_number;
 
 // Of an addition's answer, whether it was refused.
 fn taken_reply(reply: AddReply) -> TakeReply

@@ -10,16 +10,10 @@ ghost use Rattle.intake.specs.Taking.{takeRecords, endReply};
 ghost use Rattle.intake.specs.Answers.{replyOf, takingOf};
 use chained::take_chained;
 use segment_file::Record;
+use segment_file::file_number;
 use tables::PlanarGraph;
 
 mod chained;
-mod numbers;
-
-pub use numbers::file_number;
-pub use numbers::refusal_number;
-
-// How many bytes a record has.
-pub const RECORD_BYTES: usize = 58;
 
 // The chains of nodes and of half-edges: their heads, and an entry for each that there may be.
 const NODE_CHAINS: usize = lookup::NODE_HEADS + tables::MAX_NODES;
@@ -29,7 +23,7 @@ const HALF_CHAINS: usize = lookup::HALF_HEADS + 2 * tables::MAX_EDGES;
 // What taking answers: all was taken, or document 01's number of the first refusal.
 pub enum TakeReply {
     Done,
-    Refused(u64),
+    Refused(u32),
 }
 
 // The counts and the stage after one record, and its answer.

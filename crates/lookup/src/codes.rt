@@ -1,6 +1,13 @@
 // The codes by which nodes and half-edges are chained.
 ghost use mathlib.Core.Path.{_≡_};
 ghost use Rattle.lookup.specs.Codes.{keyCode, pairCode};
+use tables::NodeId;
+use tables::wide;
+
+// How many chains of nodes there are, and how many of half-edges.
+pub const NODE_HEADS: usize = 2048;
+
+pub const HALF_HEADS: usize = 4096;
 
 // Of the bits of a point's x and y.
 pub fn key_code(bits_x: u64, bits_y: u64) -> usize
@@ -8,13 +15,13 @@ pub fn key_code(bits_x: u64, bits_y: u64) -> usize
 {
     let x = bits_x / 4_294_967_296 * 1_540_483_477;
     let y = bits_y / 4_294_967_296 * 1_640_531_527;
-    let code = (x + y) / 4_294_967_296 % 2048;
-    code as usize
+    let code = (x + y) / 4_294_967_296;
+    code as usize % NODE_HEADS
 }
 
 // Of the nodes that a half-edge joins.
-pub fn pair_code(u: u16, v: u16) -> usize
-    ensures { λ r. ⌜ r ≡ pairCode u v ⌝ }
+pub fn pair_code(u: NodeId, v: NodeId) -> usize
+    ensures { λ r. ⌜ r ≡ pairCode (u .0) (v .0) ⌝ }
 {
-    (300 * (u as usize) + v as usize) % 4096
+    (300 * wide(u.0) + wide(v.0)) % HALF_HEADS
 }

@@ -1,4 +1,5 @@
-// Half-edges chained by their ends.
+// Half-edges chained by their ends: behind the heads of the chains comes an entry for each entry of the
+// star table.
 ghost use mathlib.Core.Path.{_≡_};
 ghost use Prim.Native.Nat.{ℕ, _+_, _*_, _<_, _≤_};
 ghost use lib.ListN.{length, getD};
@@ -6,20 +7,19 @@ ghost use Rattle.rules.specs.Limits.{limits};
 ghost use Rattle.adding.specs.Searches.{findHalfIn};
 ghost use Rattle.lookup.specs.Codes.{halfHeads, pairCode};
 ghost use Rattle.lookup.specs.Indexed.{HalvesChained};
+use crate::codes::HALF_HEADS;
 use crate::codes::pair_code;
 use tables::DirEdgeId;
 use tables::NodeId;
-
-// How many chains there are; behind their heads comes an entry for each entry of the star table.
-pub const HALF_HEADS: usize = 4096;
+use tables::wide;
 
 // The code of a half-edge.
-fn half_code(dir_edges_src: &[u16], dir_edges_dst: &[u16], h: u16) -> usize
-    requires { ⌜ (h < length (now «dir_edges_src»)) × (h < length (now «dir_edges_dst»)) ⌝ }
-    ensures { λ r. ⌜ r ≡ pairCode (getD (now («dir_edges_src» .entry)) h 0) (getD (now («dir_edges_dst» .entry)) h 0) ⌝ }
+fn half_code(dir_edges_src: &[u16], dir_edges_dst: &[u16], half: DirEdgeId) -> usize
+    requires { ⌜ (half .0 < length (now «dir_edges_src»)) × (half .0 < length (now «dir_edges_dst»)) ⌝ }
+    ensures { λ r. ⌜ r ≡ pairCode (getD (now («dir_edges_src» .entry)) (half .0) 0) (getD (now («dir_edges_dst» .entry)) (half .0) 0) ⌝ }
 {
-    let i = h as usize;
-    pair_code(dir_edges_src[i], dir_edges_dst[i])
+    let h = wide(half.0);
+    pair_code(NodeId(dir_edges_src[h]), NodeId(dir_edges_dst[h]))
 }
 
 // Chains the half-edges at the star table's entries from `from` up to `to`, those before being chained.
@@ -38,8 +38,8 @@ pub fn enter_halves(
 {
     let mut i = from;
     while i < to {
-        let h = nodes_outgoing[i as usize];
-        let code = half_code(dir_edges_src, dir_edges_dst, h);
+        let half = DirEdgeId(nodes_outgoing[wide(i)]);
+        let code = half_code(dir_edges_src, dir_edges_dst, half);
         chains::enter(half_chains, HALF_HEADS, code, i);
         i += 1;
     }
@@ -59,15 +59,13 @@ pub fn find_half(
     requires { ⌜ (edges ≤ limits .edges) × HalvesChained (2 * edges) (now «dir_edges_src») (now «dir_edges_dst») (now «nodes_outgoing») (now «half_chains») ⌝ }
     ensures { λ r. ⌜ r .0 ≡ findHalfIn edges (now («dir_edges_src» .entry)) (now («dir_edges_dst» .entry)) (now («nodes_outgoing» .entry)) (u .0) (v .0) ⌝ }
 {
-    let from = u.0;
-    let to = v.0;
-    let code = pair_code(from, to);
+    let code = pair_code(u, v);
     let mut found = 2 * edges;
     let mut at = half_chains[code];
     while 0 < at {
-        let i = (at - 1) as usize;
+        let i = wide(at - 1);
         let h = nodes_outgoing[i];
-        if adding::goes(dir_edges_src, dir_edges_dst, h as usize, from, to) {
+        if adding::goes(dir_edges_src, dir_edges_dst, DirEdgeId(h), u, v) {
             found = h;
         }
         at = half_chains[HALF_HEADS + i];

@@ -4,9 +4,9 @@ mod codes;
 mod halves;
 mod nodes;
 
-pub use halves::HALF_HEADS;
+pub use codes::HALF_HEADS;
+pub use codes::NODE_HEADS;
 pub use halves::enter_halves;
 pub use halves::find_half;
-pub use nodes::NODE_HEADS;
 pub use nodes::enter_nodes;
 pub use nodes::find_node;

@@ -1,4 +1,4 @@
-// Nodes chained by key.
+// Nodes chained by key: behind the heads of the chains comes an entry for each node.
 ghost use mathlib.Core.Path.{_≡_};
 ghost use Prim.Native.Nat.{_+_, _<_, _≤_};
 ghost use lib.ListN.{length};
@@ -6,18 +6,18 @@ ghost use Rattle.rules.specs.Keys.{keyOf};
 ghost use Rattle.adding.specs.Searches.{findNodeIn};
 ghost use Rattle.lookup.specs.Codes.{nodeHeads, nodeCode};
 ghost use Rattle.lookup.specs.Indexed.{NodesChained};
+use crate::codes::NODE_HEADS;
 use crate::codes::key_code;
 use geometry::Coord3D;
 use tables::NodeId;
+use tables::wide;
 
-// How many chains there are; behind their heads comes an entry for each node.
-pub const NODE_HEADS: usize = 2048;
-
-// The code of node n.
-fn node_code(nodes_x: &[f64], nodes_y: &[f64], n: usize) -> usize
-    requires { ⌜ (n < length (now «nodes_x»)) × (n < length (now «nodes_y»)) ⌝ }
-    ensures { λ r. ⌜ r ≡ nodeCode (now («nodes_x» .entry)) (now («nodes_y» .entry)) n ⌝ }
+// The code of a node.
+fn node_code(nodes_x: &[f64], nodes_y: &[f64], node: NodeId) -> usize
+    requires { ⌜ (node .0 < length (now «nodes_x»)) × (node .0 < length (now «nodes_y»)) ⌝ }
+    ensures { λ r. ⌜ r ≡ nodeCode (now («nodes_x» .entry)) (now («nodes_y» .entry)) (node .0) ⌝ }
 {
+    let n = wide(node.0);
     let bits_x = geometry::canonical_coordinate_bits(nodes_x[n]);
     let bits_y = geometry::canonical_coordinate_bits(nodes_y[n]);
     key_code(bits_x, bits_y)
@@ -31,7 +31,7 @@ pub fn enter_nodes(nodes_x: &[f64], nodes_y: &[f64], node_chains: &mut [u16], fr
 {
     let mut n = from;
     while n < to {
-        let code = node_code(nodes_x, nodes_y, n as usize);
+        let code = node_code(nodes_x, nodes_y, NodeId(n));
         chains::enter(node_chains, NODE_HEADS, code, n);
         n += 1;
     }
@@ -56,11 +56,10 @@ pub fn find_node(
     let mut at = node_chains[code];
     while 0 < at {
         let n = at - 1;
-        let i = n as usize;
-        if adding::has_key(nodes_x, nodes_y, i, bits_x, bits_y) {
+        if adding::has_key(nodes_x, nodes_y, NodeId(n), bits_x, bits_y) {
             found = n;
         }
-        at = node_chains[NODE_HEADS + i];
+        at = node_chains[NODE_HEADS + wide(n)];
     }
     NodeId(found)
 }

@@ -9,10 +9,11 @@ ghost use Rattle.segment_file.specs.Record.{numberOf, readOf};
 use geometry::Coord3D;
 use geometry::Line3D;
 
-// What the length of a record says: how many bytes follow it. With its own 4 a record has 58.
+// What the length of a record says: how many bytes follow it.
 const LENGTH: u32 = 54;
 
-const RECORD_BYTES: usize = 58;
+// How many bytes a record has, with the 4 of its length.
+pub const RECORD_BYTES: usize = 58;
 
 // The kind of a record that holds a segment.
 const SEGMENT_KIND: u16 = 1;

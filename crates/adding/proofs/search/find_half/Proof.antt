@@ -19,12 +19,16 @@ abbrev test : List ℕ → List ℕ → ℕ → ℕ → ℕ → Bool
 test source target u v h = eqb (getD source h 0) u && eqb (getD target h 0) v
 
 abbrev Inv-loop : tie.InvT-loop
-Inv-loop dir-edges-src dir-edges-dst nodes-outgoing count from to i₀ i =
+Inv-loop dir-edges-src dir-edges-dst nodes-outgoing u v count i₀ i =
     (i ≤ count)
-    × (firstWhere (test dir-edges-src dir-edges-dst from to) count (drop i (take count nodes-outgoing)) ≡ firstWhere (test dir-edges-src dir-edges-dst from to) count (take count nodes-outgoing))
+    × (firstWhere (test dir-edges-src dir-edges-dst (u .0) (v .0)) count (drop i (take count nodes-outgoing)) ≡ firstWhere (test dir-edges-src dir-edges-dst (u .0) (v .0)) count (take count nodes-outgoing))
 
 abbrev μ-loop : tie.MeasureT-loop
-μ-loop dir-edges-src dir-edges-dst nodes-outgoing count from to i₀ i = count - i
+μ-loop dir-edges-src dir-edges-dst nodes-outgoing u v count i₀ i = count - i
+
+-- where the loop was entered, from a turn that has read an entry
+abbrev entry : tie.After-goes Inv-loop μ-loop → tie.Start Inv-loop μ-loop
+entry c = c .before .before .before .before .before .before .before .before .before
 
 mul-count : tie.Need-mul-count Inv-loop μ-loop
 mul-count c = omega (arith, c .before .before .before .before .pre .0)
@@ -36,22 +40,22 @@ wide-requires : tie.Need-wide-requires Inv-loop μ-loop
 wide-requires c κs = search needs
 
 mul-h : tie.Need-mul-h Inv-loop μ-loop
-mul-h c = omega (arith, c .wide .ensures, c .before .before .loop .inv .0, c .before .before .before .before .before .before .before .pre .0, c .before .before .before .before .before .before .before .good)
+mul-h c =
+    let k = c .before .before .before .before .before .before .before in
+    omega (arith, c .wide .ensures, c .before .before .loop .inv .0, k .pre .0, k .good)
 
 shared-slice-read-h : tie.Need-shared-slice-read-h Inv-loop μ-loop
-shared-slice-read-h c = omega (arith, c .before .wide .ensures, c .before .before .before .loop .inv .0, c .before .before .before .before .before .before .before .before .pre .0)
-
-wide-requires-2 : tie.Need-wide-requires-2 Inv-loop μ-loop
-wide-requires-2 c κs = search needs
+shared-slice-read-h c =
+    let k = c .before .before .before .before .before .before .before .before in
+    omega (arith, c .before .wide .ensures, c .before .before .before .loop .inv .0, k .pre .0)
 
 goes-requires : tie.Need-goes-requires Inv-loop μ-loop
 goes-requires c κs =
-    let k = c .before .before .before .before .before .before .before .before .before in
-    let i = c .before .before .before .before .loop .i in
-    let h : i < 2 * k .args .graph .«edge_count» = c .before .before .before .loop-test .taken in
-    let r = k .pre .1 i h in
-    let e : c .wide2 .result ≡ getD (k .args .nodes-outgoing .now) i 0 = c .wide2 .ensures ∙ ap (λ j. getD (k .args .nodes-outgoing .now) j 0) (c .before .before .wide .ensures) in
-    (omega (arith, r .0), omega (arith, r .1))
+    let k = c .before .before .before .before .before .before .before .before in
+    let i = c .before .before .before .loop .i in
+    let r = k .pre .1 i (c .before .before .loop-test .taken) in
+    let e = ap (λ j. getD (k .args .nodes-outgoing .now) j 0) (c .before .wide .ensures) in
+    (omega (arith, e, r .0), omega (arith, e, r .1))
 
 -- the test at this call
 abbrev tested : tie.Start Inv-loop μ-loop → ℕ → Bool
@@ -66,37 +70,36 @@ both-tests k =
     first-pick (λ h. eqb (getD (k .args .dir-edges-dst .now) h 0) (k .args .v .0)) (λ h. eqb (getD (k .args .dir-edges-src .now) h 0) (k .args .u .0)) n (take n (k .args .nodes-outgoing .now))
 
 -- what the code tests at entry i
-passed : (c : tie.After-goes Inv-loop μ-loop) → let k = c .before .before .before .before .before .before .before .before .before .before in
-    tested k (getD (k .args .nodes-outgoing .now) (c .before .before .before .before .before .loop .i) 0) ≡ c .goes .result
+passed : (c : tie.After-goes Inv-loop μ-loop) → let k = entry c in
+    tested k (getD (k .args .nodes-outgoing .now) (c .before .before .before .before .loop .i) 0) ≡ c .goes .result
 passed c =
-    let k = c .before .before .before .before .before .before .before .before .before .before in
-    ap (tested k) (sym (c .before .wide2 .ensures ∙ ap (λ j. getD (k .args .nodes-outgoing .now) j 0) (c .before .before .before .wide .ensures))) ∙ sym (c .goes .ensures)
+    let k = entry c in
+    ap (λ j. tested k (getD (k .args .nodes-outgoing .now) j 0)) (sym (c .before .before .wide .ensures)) ∙ sym (c .goes .ensures)
 
 returns : tie.Need-returns Inv-loop μ-loop
 returns c =
-    let k = c .before .before .before .before .before .before .before .before .before .before .before in
-    let i = c .before .before .before .before .before .before .loop .i in
+    let k = entry (c .before) in
+    let q = c .before .before .before .before .before in
     let o = k .args .nodes-outgoing .now in
-    ap (λ j. getD o j 0) (c .before .before .before .before .wide .ensures)
-    ∙ half-hit (tested k) (2 * k .args .graph .«edge_count») (2 * k .args .graph .«edge_count») o (k .pre .0 .1) i (c .before .before .before .before .before .loop-test .taken)
-    (passed (c .before) ∙ c .if1 .taken) (c .before .before .before .before .before .before .loop .inv .1)
+    let n = 2 * k .args .graph .«edge_count» in
+    ap (λ j. getD o j 0) (c .before .before .before .wide .ensures)
+    ∙ half-hit (tested k) n n o (k .pre .0 .1) (q .loop .i) (c .before .before .before .before .loop-test .taken) (passed (c .before) ∙ c .if1 .taken) (q .loop .inv .1)
     ∙ sym (both-tests k)
 
 add-i : tie.Need-add-i Inv-loop μ-loop
-add-i c = omega (arith, c .before .before .before .before .before .before .before .before .before .before .before .pre .0)
+add-i c = omega (arith, entry (c .before) .pre)
 
 loop-less : tie.Need-loop-less Inv-loop μ-loop
 loop-less c = omega arith
 
 loop-again : tie.Need-loop-again Inv-loop μ-loop
 loop-again c =
-    let k = c .before .before .before .before .before .before .before .before .before .before .before in
-    let i = c .before .before .before .before .before .before .loop .i in
-    let o = k .args .nodes-outgoing .now in (
-      omega (arith, c .before .before .before .before .before .loop-test .taken),
-      half-miss (tested k) (2 * k .args .graph .«edge_count») (2 * k .args .graph .«edge_count») o (k .pre .0 .1) i (c .before .before .before .before .before .loop-test .taken)
-          (passed (c .before) ∙ c .if1 .left) (c .before .before .before .before .before .before .loop .inv .1),
-    )
+    let k = entry (c .before) in
+    let q = c .before .before .before .before .before in
+    let o = k .args .nodes-outgoing .now in
+    let n = 2 * k .args .graph .«edge_count» in
+    let t = c .before .before .before .before .loop-test .taken in
+    (omega (arith, t), half-miss (tested k) n n o (k .pre .0 .1) (q .loop .i) t (passed (c .before) ∙ c .if1 .left) (q .loop .inv .1))
 
 returns-2 : tie.Need-returns-2 Inv-loop μ-loop
 returns-2 c =
@@ -116,7 +119,6 @@ find-half-spec =
     wide-requires
     mul-h
     shared-slice-read-h
-    wide-requires-2
     goes-requires
     returns
     add-i

@@ -38,11 +38,12 @@ canonical-coordinate-bits-requires-2 c κs = search needs
 loop-holds : tie.Need-loop-holds Inv-loop μ-loop
 loop-holds c = (omega arith, refl)
 
-wide-requires : tie.Need-wide-requires Inv-loop μ-loop
-wide-requires c κs = search needs
+-- where the loop was entered, from a turn that has tested a node
+abbrev entry : tie.After-has-key Inv-loop μ-loop → tie.Start Inv-loop μ-loop
+entry c = c .before .before .before .before .before .before .before
 
 has-key-requires : tie.Need-has-key-requires Inv-loop μ-loop
-has-key-requires c κs = omega (arith, c .wide .ensures, c .before .before .loop .inv .0, c .before .before .before .before .before .before .before .pre)
+has-key-requires c κs = omega (arith, c .before .loop .inv .0, c .before .before .before .before .before .before .pre)
 
 -- the test at this call
 abbrev tested : tie.Start Inv-loop μ-loop → ℕ → ℕ → ℕ → Bool
@@ -55,28 +56,29 @@ keys : (k : tie.Start Inv-loop μ-loop) (bx by : ℕ) → bx ≡ canonicalBits (
 unfolding keyOf
 keys k bx by ex ey = let m = k .args .graph .«node_count» in ap₂ (λ x y. firstWhere (tested k x y) m (upto m)) ex ey
 
+-- the test that the code makes at a node
+abbrev key-test : tie.After-has-key Inv-loop μ-loop → ℕ → Bool
+key-test c = tested (entry c) (c .before .before .before .before .canonical-coordinate-bits .result) (c .before .before .before .canonical-coordinate-bits2 .result)
+
 returns : tie.Need-returns Inv-loop μ-loop
 returns c =
-    let q = c .before .before .before .before in
-    let k = c .before .before .before .before .before .before .before .before .before in
-    node-hit (test (k .args .nodes-x .now) (k .args .nodes-y .now) (c .before .before .before .before .before .before .canonical-coordinate-bits .result) (c .before .before .before .before .before .canonical-coordinate-bits2 .result)) (k .args .graph .«node_count») (q .loop .n)
-    (c .before .before .before .loop-test .taken) (ap (tested k (c .before .before .before .before .before .before .canonical-coordinate-bits .result) (c .before .before .before .before .before .canonical-coordinate-bits2 .result)) (sym (c .before .before .wide .ensures)) ∙ sym (c .before .has-key .ensures) ∙ c .if1 .taken) (q .loop .inv .1)
-    ∙ keys k _ _ (c .before .before .before .before .before .before .canonical-coordinate-bits .ensures) (c .before .before .before .before .before .canonical-coordinate-bits2 .ensures)
+    let k = entry (c .before) in
+    let q = c .before .before .before in
+    node-hit (key-test (c .before)) (k .args .graph .«node_count») (q .loop .n) (c .before .before .loop-test .taken) (sym (c .before .has-key .ensures) ∙ c .if1 .taken) (q .loop .inv .1)
+    ∙ keys k _ _ (q .before .before .canonical-coordinate-bits .ensures) (q .before .canonical-coordinate-bits2 .ensures)
 
 add-n : tie.Need-add-n Inv-loop μ-loop
-add-n c = omega (arith, c .before .before .before .before .before .before .before .before .before .pre)
+add-n c = omega (arith, entry (c .before) .pre)
 
 loop-less : tie.Need-loop-less Inv-loop μ-loop
 loop-less c = omega arith
 
 loop-again : tie.Need-loop-again Inv-loop μ-loop
 loop-again c =
-    let q = c .before .before .before .before in
-    let k = c .before .before .before .before .before .before .before .before .before in (
-      omega (arith, c .before .before .before .loop-test .taken),
-      node-miss (test (k .args .nodes-x .now) (k .args .nodes-y .now) (c .before .before .before .before .before .before .canonical-coordinate-bits .result) (c .before .before .before .before .before .canonical-coordinate-bits2 .result)) (k .args .graph .«node_count») (q .loop .n)
-          (c .before .before .before .loop-test .taken) (ap (tested k (c .before .before .before .before .before .before .canonical-coordinate-bits .result) (c .before .before .before .before .before .canonical-coordinate-bits2 .result)) (sym (c .before .before .wide .ensures)) ∙ sym (c .before .has-key .ensures) ∙ c .if1 .left) (q .loop .inv .1),
-    )
+    let k = entry (c .before) in
+    let q = c .before .before .before in
+    let t = c .before .before .loop-test .taken in
+    (omega (arith, t), node-miss (key-test (c .before)) (k .args .graph .«node_count») (q .loop .n) t (sym (c .before .has-key .ensures) ∙ c .if1 .left) (q .loop .inv .1))
 
 returns-2 : tie.Need-returns-2 Inv-loop μ-loop
 returns-2 c =
@@ -94,7 +96,6 @@ find-node-spec =
     canonical-coordinate-bits-requires
     canonical-coordinate-bits-requires-2
     loop-holds
-    wide-requires
     has-key-requires
     returns
     add-n
