@@ -2,7 +2,6 @@
 ghost use mathlib.Core.Path.{_≡_};
 ghost use Rattle.lookup.specs.Codes.{keyCode, pairCode};
 use tables::NodeId;
-use tables::wide;
 
 // How many chains of nodes there are, and how many of half-edges.
 pub const NODE_HEADS: usize = 2048;
@@ -23,5 +22,5 @@ pub fn key_code(bits_x: u64, bits_y: u64) -> usize
 pub fn pair_code(u: NodeId, v: NodeId) -> usize
     ensures { λ r. ⌜ r ≡ pairCode (u .0) (v .0) ⌝ }
 {
-    (300 * wide(u.0) + wide(v.0)) % HALF_HEADS
+    (300 * (u.0 as usize) + v.0 as usize) % HALF_HEADS
 }

@@ -11,14 +11,13 @@ use crate::codes::HALF_HEADS;
 use crate::codes::pair_code;
 use tables::DirEdgeId;
 use tables::NodeId;
-use tables::wide;
 
 // The code of a half-edge.
 fn half_code(dir_edges_src: &[u16], dir_edges_dst: &[u16], half: DirEdgeId) -> usize
     requires { ⌜ (half .0 < length (now «dir_edges_src»)) × (half .0 < length (now «dir_edges_dst»)) ⌝ }
     ensures { λ r. ⌜ r ≡ pairCode (getD (now («dir_edges_src» .entry)) (half .0) 0) (getD (now («dir_edges_dst» .entry)) (half .0) 0) ⌝ }
 {
-    let h = wide(half.0);
+    let h = half.0 as usize;
     pair_code(NodeId(dir_edges_src[h]), NodeId(dir_edges_dst[h]))
 }
 
@@ -38,8 +37,8 @@ pub fn enter_halves(
 {
     let mut i = from;
     while i < to {
-        let half = DirEdgeId(nodes_outgoing[wide(i)]);
-        let code = half_code(dir_edges_src, dir_edges_dst, half);
+        let h = nodes_outgoing[i as usize];
+        let code = half_code(dir_edges_src, dir_edges_dst, DirEdgeId(h));
         chains::enter(half_chains, HALF_HEADS, code, i);
         i += 1;
     }
@@ -63,7 +62,7 @@ pub fn find_half(
     let mut found = 2 * edges;
     let mut at = half_chains[code];
     while 0 < at {
-        let i = wide(at - 1);
+        let i = (at - 1) as usize;
         let h = nodes_outgoing[i];
         if adding::goes(dir_edges_src, dir_edges_dst, DirEdgeId(h), u, v) {
             found = h;

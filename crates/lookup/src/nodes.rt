@@ -10,14 +10,13 @@ use crate::codes::NODE_HEADS;
 use crate::codes::key_code;
 use geometry::Coord3D;
 use tables::NodeId;
-use tables::wide;
 
 // The code of a node.
 fn node_code(nodes_x: &[f64], nodes_y: &[f64], node: NodeId) -> usize
     requires { ⌜ (node .0 < length (now «nodes_x»)) × (node .0 < length (now «nodes_y»)) ⌝ }
     ensures { λ r. ⌜ r ≡ nodeCode (now («nodes_x» .entry)) (now («nodes_y» .entry)) (node .0) ⌝ }
 {
-    let n = wide(node.0);
+    let n = node.0 as usize;
     let bits_x = geometry::canonical_coordinate_bits(nodes_x[n]);
     let bits_y = geometry::canonical_coordinate_bits(nodes_y[n]);
     key_code(bits_x, bits_y)
@@ -56,10 +55,11 @@ pub fn find_node(
     let mut at = node_chains[code];
     while 0 < at {
         let n = at - 1;
+        let i = n as usize;
         if adding::has_key(nodes_x, nodes_y, NodeId(n), bits_x, bits_y) {
             found = n;
         }
-        at = node_chains[NODE_HEADS + wide(n)];
+        at = node_chains[NODE_HEADS + i];
     }
     NodeId(found)
 }

@@ -20,10 +20,10 @@ Along source target star u v halves at found =
     Walk (λ i. joins source target star u v (getD star i 0)) (λ i. getD star i 0) (halfCode source target star) (pairCode u v) (pair-meant source target star u v) halves halves at found
 
 abbrev Inv-loop : tie.InvT-loop
-Inv-loop edges dir-edges-src dir-edges-dst nodes-outgoing half-chains from to code found₀ at₀ found at = Along dir-edges-src dir-edges-dst nodes-outgoing from to (2 * edges) at found
+Inv-loop edges dir-edges-src dir-edges-dst nodes-outgoing half-chains u v code found₀ at₀ found at = Along dir-edges-src dir-edges-dst nodes-outgoing (u .0) (v .0) (2 * edges) at found
 
 abbrev μ-loop : tie.MeasureT-loop
-μ-loop edges dir-edges-src dir-edges-dst nodes-outgoing half-chains from to code found₀ at₀ found at = at
+μ-loop edges dir-edges-src dir-edges-dst nodes-outgoing half-chains u v code found₀ at₀ found at = at
 
 pair-code-requires : tie.Need-pair-code-requires Inv-loop μ-loop
 pair-code-requires c κs = search needs
@@ -57,9 +57,6 @@ mul-h c = omega (arith, c .loop-test .taken, c .before .loop .inv .low, c .befor
 
 shared-slice-read-h : tie.Need-shared-slice-read-h Inv-loop μ-loop
 shared-slice-read-h c = omega (arith, c .before .loop-test .taken, c .before .before .loop .inv .low, c .before .before .before .before .before .before .before .before .before .pre .1 .roomStar)
-
-cast-goes : tie.Need-cast-goes Inv-loop μ-loop
-cast-goes c = omega (arith, c .shared-slice-known6 .given (c .before .before .loop .at - 1))
 
 goes-requires : tie.Need-goes-requires Inv-loop μ-loop
 goes-requires c κs = c .before .before .before .before .before .before .before .before .before .pre .1 .known (c .before .before .loop .at - 1) (omega (arith, c .before .loop-test .taken, c .before .before .loop .inv .low))
@@ -119,7 +116,6 @@ find-half-spec =
     cast-i
     mul-h
     shared-slice-read-h
-    cast-goes
     goes-requires
     add-at
     mul-at-2

@@ -20,9 +20,6 @@ abbrev μ-loop : tie.MeasureT-loop
 loop-holds : tie.Need-loop-holds Inv-loop μ-loop
 loop-holds c = (omega arith, omega (arith, c .before .before .before .pre .1), refl, c .before .before .before .pre .0 .chained)
 
-cast-node-code : tie.Need-cast-node-code Inv-loop μ-loop
-cast-node-code c = omega (arith, c .before .before .before .before .before .good)
-
 node-code-requires : tie.Need-node-code-requires Inv-loop μ-loop
 node-code-requires c κs = omega (arith, c .loop-test .taken, c .before .before .before .before .before .pre .1)
 
@@ -69,7 +66,6 @@ enter-nodes-spec =
     Inv-loop
     μ-loop
     loop-holds
-    cast-node-code
     node-code-requires
     enter-requires
     add-n

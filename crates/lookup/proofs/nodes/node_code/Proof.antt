@@ -6,6 +6,9 @@ use borrow.Author.Needs.{needs}
 use Rattle.lookup.proofs.nodes.node_code.Statement.{statement}
 use Rattle.lookup.proofs.nodes.node_code.Tie as tie
 
+cast-n : tie.Need-cast-n
+cast-n c = search needs
+
 mul-canonical-coordinate-bits : tie.Need-mul-canonical-coordinate-bits
 mul-canonical-coordinate-bits c = search needs
 
@@ -38,6 +41,7 @@ pub node-code-spec : {M : Type 1} → statement M
 node-code-spec =
     tie.close
     (tie.spec
+    cast-n
     mul-canonical-coordinate-bits
     shared-slice-read-canonical-coordinate-bits
     canonical-coordinate-bits-requires
