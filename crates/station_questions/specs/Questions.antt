@@ -4,10 +4,7 @@ use mathlib.Core.List.{List, [], _∷_}
 use lib.Ieee.{Float, binary64, ofBits}
 use Rattle.geometry.specs.Reply.{Reply, refused, success}
 use Rattle.geometry.specs.declared.Coord3D.{Coord3D}
-use Rattle.rotation.specs.declared.RotationStart.{RotationStart}
-use Rattle.rotation.specs.declared.RotationStart.the-variants.{At, LengthsDiffer}
-use Rattle.tables.specs.Refusals.{refusalNumber}
-use Rattle.tables.specs.declared.Refusal.the-variants.{ListTooShort}
+use Rattle.rotation.specs.Answers.{Start}
 
 -- the number answered, and the values of the reply
 pub record Told : Type 0 where
@@ -27,10 +24,10 @@ abbrev pub toldOrder : List ℕ → Reply Ordering → Told
 toldOrder reply (refused n) = toldBy n reply
 toldOrder reply (success o) = toldBy 0 (orderNumber o ∷ [])
 
--- the place and the comparisons; slices of unequal lengths are no ring: the shorter is a list that is too short
-abbrev pub toldStart : List ℕ → RotationStart → Told
-toldStart reply (At i n) = toldBy 0 (i ∷ n ∷ [])
-toldStart reply LengthsDiffer = toldBy (refusalNumber ListTooShort) reply
+-- the place and the comparisons
+abbrev pub toldStart : List ℕ → Reply Start → Told
+toldStart reply (refused n) = toldBy n reply
+toldStart reply (success s) = toldBy 0 (s .place ∷ s .compared ∷ [])
 
 -- a point of the plane
 abbrev pub flat : Float → Float → Coord3D

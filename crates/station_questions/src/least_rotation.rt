@@ -1,6 +1,6 @@
 // A least rotation, for a caller that hands over numbers and slices.
 ghost use mathlib.Core.Path.{_≡_};
-ghost use Rattle.rotation.specs.Answers.{rotationStart};
+ghost use Rattle.rotation.specs.Answers.{rotationStart, startReply};
 ghost use Rattle.station_questions.specs.Questions.{toldBy, toldStart};
 use rotation::RotationStart;
 use tables::Refusal;
@@ -16,7 +16,7 @@ pub extern "C" fn tukmiheb_minimum_rotation_index(
     ys: &[u64],
     reply: &mut [usize; ROTATION_LENGTH],
 ) -> u32
-    ensures { λ r. ⌜ toldBy r (now (reply .exit)) ≡ toldStart (now (reply .entry)) (rotationStart (now (xs .entry)) (now (ys .entry))) ⌝ }
+    ensures { λ r. ⌜ toldBy r (now (reply .exit)) ≡ toldStart (now (reply .entry)) (startReply (rotationStart (now (xs .entry)) (now (ys .entry)))) ⌝ }
 {
     match rotation::minimum_rotation_index(xs, ys) {
         RotationStart::LengthsDiffer => refusal_number(Refusal::ListTooShort),

@@ -1,5 +1,6 @@
 -- `tukmiheb_minimum_rotation_index` meets its contract.
 use mathlib.Core.Path.{sym, ap, _∙_}
+use Rattle.rotation.specs.Answers.{startReply}
 use Rattle.station_questions.specs.Questions.{toldBy, toldStart}
 use borrow.Author.Needs.{needs}
 use Rattle.station_questions.proofs.least_rotation.tukmiheb_minimum_rotation_index.Statement.{
@@ -24,13 +25,13 @@ returns c =
     let told = c .before in
     let found = told .before .before in
     let reply = found .before .before .before .args .reply .now in
-    ap (λ n. toldBy n reply) (c .refusal-number .ensures) ∙ ap (toldStart reply) (sym (told .enum-told .given .1) ∙ found .minimum-rotation-index .ensures)
+    ap (λ n. toldBy n reply) (c .refusal-number .ensures) ∙ ap (λ r. toldStart reply (startReply r)) (sym (told .enum-told .given .1) ∙ found .minimum-rotation-index .ensures)
 
 returns-2 : tie.Need-returns-2
 returns-2 c =
     let told = c .before .before in
     let found = told .before .before in
-    ap (toldStart (found .before .before .before .args .reply .now)) (sym (told .start .given .1) ∙ found .minimum-rotation-index .ensures)
+    ap (λ r. toldStart (found .before .before .before .args .reply .now) (startReply r)) (sym (told .start .given .1) ∙ found .minimum-rotation-index .ensures)
 
 pub tukmiheb-minimum-rotation-index-spec : {M : Type 1} → statement M
 tukmiheb-minimum-rotation-index-spec =
