@@ -4,5 +4,5 @@ pub mod Ending
 pub mod Shell
 -- demand 1: a refusal changes nothing lent
 pub mod Refusals
--- a file is additions
-pub mod Additions
+-- a file is its segments added one by one
+pub mod Segments

@@ -14,6 +14,11 @@ pub record Records : Type 0 where
   pub taken : ℕ
   pub number : ℕ
 
+-- how many a reply says were taken, none where the call was refused
+abbrev pub takenOf : Reply Records → ℕ
+takenOf (refused n) = 0
+takenOf (success r) = r .taken
+
 -- the number of a refusal, 0 for success
 abbrev pub endNumber : Reply Nothing → ℕ
 endNumber (refused n) = n

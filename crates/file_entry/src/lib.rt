@@ -8,7 +8,8 @@ ghost use Rattle.tables.specs.Regions.{stateIn};
 ghost use Rattle.calls.specs.Replies.{left};
 ghost use Rattle.intake.specs.Taking.{takeFile};
 ghost use Rattle.intake.specs.Answers.{replyOf};
-ghost use Rattle.file_entry.specs.FileAdding.{lastNumber, recordsTaken, addRecords};
+ghost use Rattle.file_entry.specs.FileAdding.{lastNumber, recordsTaken};
+ghost use Rattle.file_entry.specs.Clause.{AddsRecords};
 ghost use Rattle.file_entry.specs.Replies.{fileReply};
 use calls::Checked;
 use calls::check_stage;
@@ -83,8 +84,10 @@ pub fn add_records(
     marks: &mut [bool],
     ids: &mut [u32],
 ) -> FileAdded
-    ensures { λ r. ⌜ left (fileReply (r .reply)) (stateIn limits (r .graph) (now (floats .exit)) (now (numbers .exit)) (now (stars .exit)) (now (marks .exit)) (now (ids .exit)))
-        ≡ addRecords limits (now (bytes .entry)) (stateIn limits graph (now (floats .entry)) (now (numbers .entry)) (now (stars .entry)) (now (marks .entry)) (now (ids .entry))) ⌝ }
+    ensures { λ r. ⌜ AddsRecords (now (bytes .entry))
+        (stateIn limits graph (now (floats .entry)) (now (numbers .entry)) (now (stars .entry)) (now (marks .entry)) (now (ids .entry)))
+        (fileReply (r .reply))
+        (stateIn limits (r .graph) (now (floats .exit)) (now (numbers .exit)) (now (stars .exit)) (now (marks .exit)) (now (ids .exit))) ⌝ }
 {
     let checked = check_stage(0, graph, floats, numbers, stars, marks, ids);
     if let Checked::Refused(why) = checked {

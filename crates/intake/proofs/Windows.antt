@@ -52,7 +52,7 @@ coord-window s at room o fits =
     }
 
 -- a whole record is what its window holds
-read-window : (s : List ℕ) (at : ℕ) → at + 58 ≤ length s → readAt s at ≡ inWindow (window s at) (at + 58)
+pub read-window : (s : List ℕ) (at : ℕ) → at + 58 ≤ length s → readAt s at ≡ inWindow (window s at) (at + 58)
 unfolding readAt
 read-window s at room =
     let f = field-window s at room in

@@ -1,2 +1,6 @@
--- Demand 3.
+-- a run as calls and files of the rules
+pub mod Acts
+-- demand 3
 pub mod Demand3
+-- no tracing can stop a consultation
+pub mod Going

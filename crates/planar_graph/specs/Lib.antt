@@ -1,2 +1,3 @@
--- What follows of every list of calls.
+-- What follows of every list of calls. Read in this order.
 pub mod Runs
+pub mod Going

@@ -11,11 +11,14 @@ use Rattle.rules.specs.Euler.{census}
 use Rattle.rules.specs.Adding.{Nothing, Added}
 use Rattle.rules.specs.Stages.{Cutting}
 use Rattle.rules.specs.Ringing.{RingLists, Ringing}
+use Rattle.rules.specs.Filing.{fileSegments, feedFile}
 use Rattle.rules.specs.Sketch.{Sketch, pointAt, sketched, feed, adding, sorting, pruning, cutting, ringing, resetting}
-use Rattle.rules.specs.Claim.{isRefused, emptySketch, ringsFrom, RingRules, SideRules, TableRules, Given64}
+use Rattle.rules.specs.Claim.{isRefused, emptySketch, ringsFrom, RingRules, SideRules, TableRules}
 use Rattle.rules.specs.Naming.{FewComparisons}
 use Rattle.create_entry.specs.Clause.{Creates}
 use Rattle.add_entry.specs.Clause.{Adds}
+use Rattle.file_entry.specs.FileAdding.{Records, takenOf}
+use Rattle.file_entry.specs.Clause.{AddsRecords}
 use Rattle.sort_entry.specs.Clause.{Sorts}
 use Rattle.prune_entry.specs.Clause.{Prunes}
 use Rattle.cut_entry.specs.Clause.{Cuts}
@@ -25,6 +28,7 @@ use Rattle.reset_entry.specs.Clause.{Resets}
 -- a call of a run, with what came out of it
 pub data Step : Type 0 where
   added : Line3D → Reply Added → State → Step
+  filed : List ℕ → Reply Records → State → Step
   sorted : Reply Nothing → State → Step
   pruned : List ℕ → Reply ℕ → State → List ℕ → Step
   cut : List ℕ → Reply Cutting → State → List ℕ → Step
@@ -34,15 +38,17 @@ pub data Step : Type 0 where
 -- the state that it left
 abbrev pub after : Step → State
 after (added line reply s) = s
+after (filed bytes reply s) = s
 after (sorted reply s) = s
 after (pruned out reply s written) = s
 after (cut out reply s written) = s
 after (extracted out reply s written) = s
 after (reset reply s) = s
 
--- it met its entry's clause on the state before it; an addition's floats are 64-bit floats, as every f64 is
+-- it met its entry's clause on the state before it
 abbrev pub Meets : State → Step → Type 0
-Meets s (added line reply t) = Adds line s reply t × Given64 line
+Meets s (added line reply t) = Adds line s reply t
+Meets s (filed bytes reply t) = AddsRecords bytes s reply t
 Meets s (sorted reply t) = Sorts s reply t
 Meets s (pruned out reply t written) = Prunes s out reply t written
 Meets s (cut out reply t written) = Cuts s out reply t written
@@ -59,9 +65,11 @@ abbrev pub ends : State → List Step → State
 ends s [] = s
 ends s (x ∷ xs) = ends (after x) xs
 
--- what the sketch is fed of a step: the call's kind, an addition's segment, and whether the call was refused
+-- What the sketch is fed of a step: the call's kind, an addition's segment, and whether the call was refused. Of a file it is fed the segments
+-- one by one, in order, as additions: as many as the reply says were taken as accepted ones, and the one after them as a refused one.
 abbrev pub feedStep : Step → Sketch → Sketch
 feedStep (added line reply s) k = feed (isRefused reply) (adding line) k
+feedStep (filed bytes reply s) k = feedFile (fileSegments bytes) (takenOf reply) k
 feedStep (sorted reply s) k = feed (isRefused reply) sorting k
 feedStep (pruned out reply s written) k = feed (isRefused reply) (pruning out) k
 feedStep (cut out reply s written) k = feed (isRefused reply) (cutting out) k
@@ -73,8 +81,8 @@ abbrev pub sketchFrom : Sketch → List Step → Sketch
 sketchFrom k [] = k
 sketchFrom k (x ∷ xs) = sketchFrom (feedStep x k) xs
 
--- Demand 3. The tables held anything when the graph was created; then came any calls, refused ones included. A ring extraction that
--- succeeds gives exactly the rings of the sketch of the calls before it, in the same order; their doubled areas sum to zero; each
+-- Demand 3. The tables held anything when the graph was created; then came any calls, files and refused ones included. A ring extraction
+-- that succeeds gives exactly the rings of the sketch of the calls before it, in the same order; their doubled areas sum to zero; each
 -- unmarked half-edge is passed once, a marked one never; rings join and stay in their maximal ring; sides and areas are exact. The counts
 -- replied are the sketch's, and the tables hold its points, lines and marks.
 unfoldable pub Demand3 : Type 0

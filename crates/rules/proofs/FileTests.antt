@@ -1,5 +1,6 @@
--- A file keeps a state that passes 6, 7 and 5 such a state. A shell that tests them once before a file leaves what the file leaves
+-- A file keeps a state that passes 6, 7 and 5 such a state. A shell that tests them once before a file leaves and accepts what the file does
 -- without these tests: its first addition makes them itself.
+use Prim.Native.Nat.{ℕ}
 use mathlib.Core.Path.{_≡_, refl, sym, ap, subst, _∙_}
 use mathlib.Core.Bool.{Bool, true, false, _&&_}
 use mathlib.Core.List.{List, [], _∷_}
@@ -37,12 +38,13 @@ filed-steady l (g ∷ gs) s t =
 abbrev tests : Limits → State → Bool
 tests l s = roomy l s && (sound l s && eqb (s .stage) 0)
 
--- what holds of the state after them: of what follows where all pass, of the state before where one fails
-tested : {A L : Type 0} (s : State) (lists : L) (o : Outcome A L) (P : State → Type 0) (a b c : Bool) → ((a && (b && c)) ≡ true → P (o .state)) → ((a && (b && c)) ≡ false → P s)
-    → P (demand a 6 s lists (demand b 7 s lists (demand c 5 s lists o)) .state)
-tested s lists o P false b c all some = some refl
-tested s lists o P true false c all some = some refl
-tested s lists o P true true false all some = some refl
+-- what holds of the outcome: of what follows where all pass, of a refusal where one fails
+tested : {A L : Type 0} (s : State) (lists : L) (o : Outcome A L) (P : Outcome A L → Type 0) (a b c : Bool) → ((a && (b && c)) ≡ true → P o)
+    → ((a && (b && c)) ≡ false → (n : ℕ) → P (record { reply = refused n; state = s; lists = lists }))
+    → P (demand a 6 s lists (demand b 7 s lists (demand c 5 s lists o)))
+tested s lists o P false b c all some = some refl 6
+tested s lists o P true false c all some = some refl 7
+tested s lists o P true true false all some = some refl 5
 tested s lists o P true true true all some = all refl
 
 -- where one fails the call is refused
@@ -58,16 +60,27 @@ add-shut : (l : Limits) (g : Line3D) (s : State) → tests l s ≡ false → isR
 unfolding add
 add-shut l g s e = shut s (record {}) _ (roomy l s) (sound l s) (eqb (s .stage) 0) e
 
--- and a file leaves the state as it was
-first-shut : (r : Reply Added) (g : Line3D) (s : State) (rest : Filed) → isRefused r ≡ true → orFiled r g s rest .state ≡ s
-first-shut (refused n) g s rest e = refl
+-- and a file leaves the state as it was, with nothing accepted
+first-shut : (r : Reply Added) (g : Line3D) (s : State) (rest : Filed) → isRefused r ≡ true
+    → (orFiled r g s rest .state ≡ s) × (orFiled r g s rest .accepted ≡ 0)
+first-shut (refused n) g s rest e = (refl, refl)
 first-shut (success a) g s rest e = absurd (true-is-false (sym e))
 
-filed-shut : (l : Limits) (gs : List Line3D) (s : State) → tests l s ≡ false → filed l gs s .state ≡ s
-filed-shut l [] s e = ap (λ f. f .state) (filed-none l s)
-filed-shut l (g ∷ gs) s e = ap (λ f. f .state) (filed-one l g gs s) ∙ first-shut (add l g s .reply) g s (filed l gs (add l g s .state)) (add-shut l g s e)
+filed-shut : (l : Limits) (gs : List Line3D) (s : State) → tests l s ≡ false → (filed l gs s .state ≡ s) × (filed l gs s .accepted ≡ 0)
+filed-shut l [] s e = (ap (λ f. f .state) (filed-none l s), ap (λ f. f .accepted) (filed-none l s))
+filed-shut l (g ∷ gs) s e =
+    let z = filed-one l g gs s in
+    let q = first-shut (add l g s .reply) g s (filed l gs (add l g s .state)) (add-shut l g s e) in
+    (ap (λ f. f .state) z ∙ q .0, ap (λ f. f .accepted) z ∙ q .1)
 
--- the shell leaves what the file leaves
-pub filed-tested : {A L : Type 0} (l : Limits) (gs : List Line3D) (s : State) (lists : L) (o : Outcome A L) → o .state ≡ filed l gs s .state
-    → step l 0 s lists o .state ≡ filed l gs s .state
-filed-tested l gs s lists o e = tested s lists o (λ t. t ≡ filed l gs s .state) (roomy l s) (sound l s) (eqb (s .stage) 0) (λ z. e) (λ z. sym (filed-shut l gs s z))
+-- an outcome that leaves what a filing leaves, and whose reply says how many segments were accepted
+pub record Tells {A L : Type 0} (says : Reply A → ℕ) (o : Outcome A L) (f : Filed) : Type 0 where
+  pub state : o .state ≡ f .state
+  pub accepted : says (o .reply) ≡ f .accepted
+
+-- a shell around such an outcome is one too, where a refusal says none
+pub filed-tested : {A L : Type 0} (says : Reply A → ℕ) → ((n : ℕ) → says (refused n) ≡ 0)
+    → (l : Limits) (gs : List Line3D) (s : State) (lists : L) (o : Outcome A L) → Tells says o (filed l gs s) → Tells says (step l 0 s lists o) (filed l gs s)
+filed-tested says none l gs s lists o t =
+    tested s lists o (λ p. Tells says p (filed l gs s)) (roomy l s) (sound l s) (eqb (s .stage) 0) (λ z. t)
+    (λ z n. let q = filed-shut l gs s z in record { state = sym (q .0); accepted = none n ∙ sym (q .1) })

@@ -1,5 +1,5 @@
--- A file is a run of additions: its calls leave its state and feed the sketch with the segments that were accepted. So what holds of every
--- list of calls holds of every list of calls and files.
+-- A file is a run of additions: its calls leave its state and feed the sketch its segments one by one. So what holds of every list of calls
+-- holds of every list of calls and files.
 use Prim.Native.Nat.{ℕ, _+_, _*_}
 use mathlib.Core.Path.{_≡_, refl, sym, ap, subst, _∙_}
 use mathlib.Core.Bool.{Bool, true, false, cond, _&&_, not}
@@ -16,10 +16,10 @@ use Rattle.rules.specs.State.{State, roomy, sound}
 use Rattle.rules.specs.Adding.{Outcome, demand, findHalf, Nothing, Added, add}
 use Rattle.rules.specs.Ringing.{RingLists, Ringing, ringStep}
 use Rattle.rules.specs.SegmentFile.{end}
-use Rattle.rules.specs.Sketch.{Sketch, Call, adding, pointAt, sketched, feed, sketchAdd}
+use Rattle.rules.specs.Sketch.{Sketch, Call, adding, pointAt, sketched, feed}
 use Rattle.rules.specs.Claim.{isRefused, call, World, turnWorld, history, emptySketch, ringsFrom, RingRules, SideRules, TableRules, Given64, AllReal, Claim}
 use Rattle.rules.specs.Going.{Going, NoTracingStops}
-use Rattle.rules.specs.Filing.{Filed, orFiled, filed, drawn, Act, single, file, act, acts, callsOf, callsIn, EachGiven, AllGiven, FileClaim, NoFileStops}
+use Rattle.rules.specs.Filing.{Filed, orFiled, filed, feedFile, Act, single, file, act, acts, callsOf, callsIn, EachGiven, AllGiven, FileClaim, NoFileStops}
 use Rattle.lists.proofs.Counts.{true-is-false}
 use Rattle.rules.proofs.Additions.{u, v, nu, nv}
 use Rattle.rules.proofs.Histories.{whole-claim, fine-limits}
@@ -79,43 +79,36 @@ turn-add : (l : Limits) (g : Line3D) (s : State) (k : Sketch)
 unfolding call
 turn-add l g s k = refl
 
--- fed or not
-fed : (b : Bool) (g : Line3D) (k : Sketch) → feed b (adding g) k ≡ cond b k (sketchAdd g k)
-unfolding feed
-fed true g k = refl
-fed false g k = refl
-
 -- one segment and then the rest
 pub filed-one : (l : Limits) (g : Line3D) (gs : List Line3D) (s : State) → (let o = add l g s in filed l (g ∷ gs) s ≡ orFiled (o .reply) g s (filed l gs (o .state)))
 unfolding filed
 filed-one l g gs s = refl
 
 -- none
-pub filed-none : (l : Limits) (s : State) → filed l [] s ≡ record { calls = []; accepted = []; state = s }
+pub filed-none : (l : Limits) (s : State) → filed l [] s ≡ record { calls = []; accepted = 0; state = s }
 unfolding filed
 filed-none l s = refl
 
 -- what the calls of a filing leave
-abbrev Leaves : Limits → State → Sketch → Filed → Type 0
-Leaves l s k f = history l (f .calls) (record { state = s; sketch = k }) ≡ record { state = f .state; sketch = drawn (f .accepted) k }
+abbrev Leaves : Limits → State → Sketch → List Line3D → Filed → Type 0
+Leaves l s k gs f = history l (f .calls) (record { state = s; sketch = k }) ≡ record { state = f .state; sketch = feedFile gs (f .accepted) k }
 
 -- by the first segment's reply
-leaves-one : (l : Limits) (g : Line3D) (s t : State) (k : Sketch) (r : Reply Added) (rest : Filed)
+leaves-one : (l : Limits) (g : Line3D) (gs : List Line3D) (s t : State) (k : Sketch) (r : Reply Added) (rest : Filed)
     → turnWorld l (adding g) (record { state = s; sketch = k }) ≡ record { state = t; sketch = feed (isRefused r) (adding g) k }
-    → (isRefused r ≡ true → t ≡ s) → Leaves l t (sketchAdd g k) rest → Leaves l s k (orFiled r g s rest)
+    → (isRefused r ≡ true → t ≡ s) → Leaves l t (feed false (adding g) k) gs rest → Leaves l s k (g ∷ gs) (orFiled r g s rest)
 unfolding history
-leaves-one l g s t k (refused n) rest e same more = e ∙ (λ i. record { state = same refl i; sketch = fed true g k i })
-leaves-one l g s t k (success a) rest e same more =
-    ap (history l (rest .calls)) (e ∙ (λ i. record { state = t; sketch = fed false g k i })) ∙ more
+leaves-one l g gs s t k (refused n) rest e same more = e ∙ (λ i. record { state = same refl i; sketch = feed true (adding g) k })
+leaves-one l g gs s t k (success a) rest e same more = ap (history l (rest .calls)) e ∙ more
 
--- THE CALLS OF A FILE, one by one, leave its state, and the sketch with the accepted segments drawn in order
-pub file-feeds : (l : Limits) (gs : List Line3D) (s : State) (k : Sketch) → Leaves l s k (filed l gs s)
+-- THE CALLS OF A FILE, one by one, leave its state, and the sketch fed its segments in order
+pub file-feeds : (l : Limits) (gs : List Line3D) (s : State) (k : Sketch) → Leaves l s k gs (filed l gs s)
 unfolding history
-file-feeds l [] s k = subst (Leaves l s k) (sym (filed-none l s)) refl
+file-feeds l [] s k = subst (Leaves l s k []) (sym (filed-none l s)) refl
 file-feeds l (g ∷ gs) s k =
     let o = add l g s in
-    subst (Leaves l s k) (sym (filed-one l g gs s))
-    (leaves-one l g s (o .state) k (o .reply) (filed l gs (o .state)) (turn-add l g s k) (add-firm l g s .same) (file-feeds l gs (o .state) (sketchAdd g k)))
+    subst (Leaves l s k (g ∷ gs)) (sym (filed-one l g gs s))
+    (leaves-one l g gs s (o .state) k (o .reply) (filed l gs (o .state)) (turn-add l g s k) (add-firm l g s .same) (file-feeds l gs (o .state) (feed false (adding g) k)))
 
 -- ---- runs of calls and files
 

@@ -21,7 +21,7 @@ use Rattle.lists.proofs.Counts.{true-is-false}
 use Rattle.rules.proofs.Additions.{u, v, nu, nv}
 
 -- a success is
-success-spared : {A L : Type 0} (o : Outcome A L) (a : A) → o .reply ≡ success a → Spared o
+pub success-spared : {A L : Type 0} (o : Outcome A L) (a : A) → o .reply ≡ success a → Spared o
 success-spared o a e = record {
   six = λ z. let f : _≡_ {A = ℕ} 0 1 = cc in absurd (omega arith);
   seven = λ z. let f : _≡_ {A = ℕ} 0 1 = cc in absurd (omega arith);
@@ -47,7 +47,7 @@ cond-spared true x y p q = p
 cond-spared false x y p q = q
 
 -- a stage step
-step-spared : {A L : Type 0} (l : Limits) (stage : ℕ) (s : State) (lists : L) (o : Outcome A L) → Held l s → Spared o → Spared (step l stage s lists o)
+pub step-spared : {A L : Type 0} (l : Limits) (stage : ℕ) (s : State) (lists : L) (o : Outcome A L) → Held l s → Spared o → Spared (step l stage s lists o)
 step-spared l stage s lists o h p =
     passed-spared (roomy l s) 6 s lists _ (h .room)
     (passed-spared (sound l s) 7 s lists _ (h .sense) (other-spared (eqb (s .stage) stage) 5 s lists o (λ e. omega arith) (λ e. omega arith) p))

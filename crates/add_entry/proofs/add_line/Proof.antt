@@ -2,6 +2,7 @@
 use mathlib.Core.Path.{refl, sym, _∙_}
 use Rattle.rules.specs.Limits.{limits}
 use Rattle.rules.specs.State.{State}
+use Rattle.rules.specs.Claim.{Given64}
 use Rattle.tables.specs.Regions.{stateIn}
 use Rattle.calls.proofs.Shells.{stage-passed}
 use Rattle.adding.specs.Outcomes.{Ready}
@@ -22,6 +23,10 @@ entry c = c .before .before .before .before .before .before .before .before .bef
 -- the place where the line was added, from the one where the slices are back
 abbrev added : tie.After-slice-known10 → tie.After-add-found
 added c = c .before .before .before .before .before .before .before .before .before .before
+
+-- the line that is given holds 64-bit floats
+given : (k : tie.Start) → Given64 (k .args .line)
+given k = search needs
 
 check-stage-requires : tie.Need-check-stage-requires
 check-stage-requires c κs = search needs
@@ -47,7 +52,10 @@ same-length-5 c = refl
 returns : tie.Need-returns
 returns c =
     let d = c .before .before .before in
-    add-stops limits (entry d .args .line) (held (entry d)) _ (sym (c .before .checked .given .1) ∙ d .check-stage .ensures)
+    record {
+      outcome = add-stops limits (entry d .args .line) (held (entry d)) _ (sym (c .before .checked .given .1) ∙ d .check-stage .ensures);
+      floats = given (entry d);
+    }
 
 enum-told : tie.Need-enum-told
 enum-told c = search needs
@@ -85,7 +93,9 @@ same-length-10 : tie.Need-same-length-10
 same-length-10 c = added c .add-found .kept .1 .1 .1 .1 .1 .1 .1 .0
 
 returns-2 : tie.Need-returns-2
-returns-2 c = added c .add-found .ensures
+returns-2 c =
+    let d = added c .before .before .before .before .before .before .before .before .before .before in
+    record { outcome = added c .add-found .ensures; floats = given (entry (d .before .before)) }
 
 pub add-line-spec : {M : Type 1} → statement M
 add-line-spec =

@@ -143,7 +143,7 @@ returns-2 c =
     let after = r .add-line .last .1 .1 in
     let row = after .1 .1 .1 .0 in
     let k′ = lent (c .answer-added .last .0) (after .0) (after .1 .0) (after .1 .1 .0) (wrote .write-marks .last .1 .0) (after .1 .1 .1 .1 .0) none (c .answer-added .last .1 .0) in
-    let e = r .add-line .ensures ∙ (λ i. add limits (read r .before .before .line-from .ensures i) (stateIn limits (d .before .before .before .before .before .before .read-state .ensures i) (k .floats) (k .numbers) (k .stars) (read r .read-marks .ensures i) (k .ids))) in
+    let e = r .add-line .ensures .outcome ∙ (λ i. add limits (read r .before .before .line-from .ensures i) (stateIn limits (d .before .before .before .before .before .before .read-state .ensures i) (k .floats) (k .numbers) (k .stars) (read r .read-marks .ensures i) (k .ids))) in
     settled addedValues k k′ o (add-keeps limits (lineOf d) (heldIn k)) (done .graph) row (replyOf (done .reply)) e
     (bytes-written row (k .bytes) (k′ .bytes) (bytes-enough k (passed t)) (size r) (wrote .write-marks .ensures)) _ (c .answer-added .ensures)
     ∙ let-in addedValues k o (passed t)
