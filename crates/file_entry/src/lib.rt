@@ -13,8 +13,8 @@ ghost use Rattle.file_entry.specs.Clause.{AddsRecords};
 ghost use Rattle.file_entry.specs.Replies.{fileReply};
 use calls::Checked;
 use calls::check_stage;
-use intake::RECORD_BYTES;
 use intake::TakeReply;
+use segment_file::RECORD_BYTES;
 use segment_file::Record;
 use tables::PlanarGraph;
 use tables::Refusal;
@@ -22,7 +22,7 @@ use tables::Refusal;
 // What is answered: how many records were taken and the number of the refusal that ended it, 0 where
 // the file did; or the refusal of the call, which added none.
 pub enum FileReply {
-    Taken(usize, u64),
+    Taken(usize, u32),
     Refused(Refusal),
 }
 
@@ -34,14 +34,14 @@ pub struct FileAdded {
 
 // What ended the taking of records: the first bad one, or else what stands at the place behind the
 // last, which is the file's end or bytes too few for a record.
-fn end_number(bytes: &[u8], at: usize, reply: TakeReply) -> u64
+fn end_number(bytes: &[u8], at: usize, reply: TakeReply) -> u32
     ensures { λ r. ⌜ r ≡ lastNumber (replyOf reply) (readAt (now (bytes .entry)) at) ⌝ }
 {
     match reply {
         TakeReply::Refused(number) => number,
         TakeReply::Done => match segment_file::read_record(bytes, at) {
             Record::Segment(_, _) => 0,
-            Record::Refused(why) => intake::file_number(why),
+            Record::Refused(why) => segment_file::file_number(why),
             Record::End => 0,
         },
     }

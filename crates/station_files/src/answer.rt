@@ -24,7 +24,8 @@ pub fn answer_records(
         FileReply::Refused(why) => refusal_number(why),
         FileReply::Taken(count, number) => {
             let taken = count as u64;
-            *reply = [taken, number];
+            let ended = number as u64;
+            *reply = [taken, ended];
             write_state(state, graph);
             0
         }
