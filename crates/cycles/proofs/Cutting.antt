@@ -6,7 +6,7 @@ use mathlib.Core.Path.{_≡_, refl, sym, ap, ap₂, _∙_}
 use mathlib.Core.Bool.{Bool, true, false, not, _&&_}
 use mathlib.Core.List.{List, [], _∷_, _++_}
 use lib.Dec.{eqb}
-use lib.ListN.{length, getD, set, length-set}
+use lib.ListN.{length, getD, set}
 use lib.Seq.{getD-set-other}
 use Rattle.lists.specs.Lists.{below, bit, In, over}
 use Rattle.lists.proofs.Counts.{by-test, in-head, in-tail, below-yes, below-no, below-le, length-below}
@@ -39,11 +39,6 @@ mark-more : (ks : List ℕ) (k : ℕ) (marks : List Bool) → markEdges (ks ++ (
 mark-more [] k marks = refl
 mark-more (x ∷ ks) k marks = mark-more ks k (set (set marks (2 * x) true) (2 * x + 1) true)
 
--- marking keeps the length
-pub length-marks : (ks : List ℕ) (marks : List Bool) → length (markEdges ks marks) ≡ length marks
-length-marks [] marks = refl
-length-marks (x ∷ ks) marks = length-marks ks (set (set marks (2 * x) true) (2 * x + 1) true) ∙ simp length-set
-
 -- marks of edges below k change none from edge k on
 mark-past : (ks : List ℕ) (marks : List Bool) (k h : ℕ) → ((x : ℕ) → In x ks → x < k) → 2 * k ≤ h → getD (markEdges ks marks) h true ≡ getD marks h true
 mark-past [] marks k h low l = refl
@@ -63,10 +58,6 @@ module _ (labels : List ℕ) (marks₀ : List Bool) (out₀ : List ℕ) where
     pub number : count ≡ length (cutsBy k marks₀ labels)
     pub marked : marks ≡ markEdges (cutsBy k marks₀ labels) marks₀
     pub listed : out ≡ over (cutsBy k marks₀ labels) out₀
-
-  -- no more than edges passed
-  pub passed-few : (marks : List Bool) (out : List ℕ) (count k : ℕ) → Passed marks out count k → count ≤ k
-  passed-few marks out count k r = omega (arith, r .number, below-le (cutBy marks₀ labels) k)
 
   -- the next edge has the marks that it had at first
   pub passed-test : (marks : List Bool) (out : List ℕ) (count k : ℕ) → Passed marks out count k → cutBy marks labels k ≡ cutBy marks₀ labels k

@@ -1,15 +1,11 @@
 -- Lists written over the front of another.
-use Prim.Native.Nat.{ℕ, suc, _+_, _<_, _≤_}
+use Prim.Native.Nat.{ℕ, suc, _+_, _<_}
 use native.Mathlib.Omega.{arith}
 use mathlib.Core.Path.{_≡_, sym, ap, _∙_}
 use mathlib.Core.List.{List, [], _∷_, _++_, append-assoc}
-use lib.ListN.{length, getD, set, drop, replicate, length-append, length-drop, length-replicate, replicate-append-replicate}
+use lib.ListN.{length, getD, set, drop, replicate, length-append, length-replicate, replicate-append-replicate}
 use lib.Seq.{drop-cons, set-append-seam}
 use Rattle.lists.specs.Lists.{over}
-
--- writing over keeps the length
-pub length-over : (xs out : List ℕ) → length xs ≤ length out → length (over xs out) ≡ length out
-length-over xs out h = omega (arith, length-append xs (drop (length xs) out), length-drop (length xs) out)
 
 -- one entry more
 pub over-set : (xs out : List ℕ) (a : ℕ) → length xs < length out → set (over xs out) (length xs) a ≡ over (xs ++ (a ∷ [])) out

@@ -3,22 +3,18 @@ use Prim.Native.Nat.{ℕ, suc, _+_, _*_, _<_, _≤_}
 use native.Mathlib.Omega.{arith}
 use native.Mathlib.Numerals.{add-one}
 use mathlib.Core.Path.{_≡_, refl, sym, ap, _∙_}
-use mathlib.Core.Bool.{Bool, true, false, _&&_}
+use mathlib.Core.Bool.{Bool, true, false}
 use mathlib.Core.List.{List, [], _∷_, _++_}
-use lib.Dec.{ltb}
 use lib.ListN.{length, getD, set, drop, replicate, length-set, length-replicate, List·getD-append}
 use lib.Seq.{set-append-left, drop-at}
-use borrow.Author.Tests.{lt-ltb, ltb-true}
 use Rattle.lists.specs.Lists.{In, over}
-use Rattle.lists.proofs.Counts.{by-lt, in-head, in-tail}
-use Rattle.lists.proofs.Tests.{both}
+use Rattle.lists.proofs.Counts.{in-head, in-tail}
 use Rattle.rules.specs.Cycles.{cycle}
-use Rattle.rules.specs.Sane.{Live, Permutes}
-use Rattle.rules.proofs.Walks.{return, cycle-run, run}
+use Rattle.rules.specs.Sane.{Permutes}
 use Rattle.rules.proofs.CycleLaws.{cycle-live}
 use Rattle.rules.proofs.Marking.{mark, stamp}
 use Rattle.rules.proofs.Sweep.{cycle-stamp}
-use Rattle.rules.proofs.Naming.{Named, name, name-given, name-used-le, name-new, name-inactive, name-has, name-label, name-used}
+use Rattle.rules.proofs.Naming.{Named, name, name-given, name-new, name-inactive, name-has, name-label, name-used}
 use Rattle.stars.specs.Groups.{unmarked}
 use Rattle.cycles.specs.Labels.{entryOf, written, Labelled}
 
@@ -114,10 +110,6 @@ module _ (edges : ℕ) (next : List ℕ) (marks : List Bool) (labels₀ : List �
       → labels′ ≡ labels → used′ ≡ used → Held labels used k → Held labels′ used′ (k + 1)
   held-has labels labels′ used used′ k h a d l u r =
       held-same labels labels′ used used′ k h (name-has (entryOf next) (2 * edges) (unmarked marks) k a (λ z. d (held-at labels used k h r ∙ z))) l u r
-
-  -- no more labels than half-edges passed
-  pub held-few : (labels : List ℕ) (used k : ℕ) → Held labels used k → used ≤ k
-  held-few labels used k r = omega (arith, r .number, name-used-le (entryOf next) (2 * edges) (unmarked marks) t k (r .inside))
 
   -- at the end all are labelled
   pub held-all : (labels : List ℕ) (used k : ℕ) → k ≡ 2 * edges → Held labels used k → Labelled edges next marks labels used

@@ -14,6 +14,7 @@ use Rattle.rules.specs.HalfEdge.{twin}
 use Rattle.rules.specs.Cycles.{Arrangement, halves, activeStar, successor}
 use Rattle.rules.specs.Sane.{Sane, Live}
 use Rattle.rules.specs.State.{arrangementIn}
+use Rattle.rules.proofs.Scans.{last-any}
 use Rattle.rules.proofs.Twin.{twin-twin, twin-injective}
 use Rattle.rules.proofs.Successor.{successor-is, onward-in, star-leaves, star-distinct, ends}
 use Rattle.stars.specs.Grouped.{Grouped}
@@ -57,11 +58,6 @@ link-at previous (x ∷ s) next h d m l = by-eq x h
     (by-eq (countOf h s) 0 (λ z. z) (λ z. absurd (distinct-out x s d (subst (λ y. In y s) (sym e) (omega arith)))))
     ∙ subst (λ y. getD (set next (twin x) previous) (twin y) 0 ≡ previous) e (getD-set-same next (twin x) previous 0 (subst (λ y. twin y < length next) (sym e) l))))
     (λ n. rw (ne-eqb x h n) (link-at x s (set next (twin x) previous) h (distinct-rest x s d) (in-other h x s n m) (omega (arith, length-set next (twin x) previous))))
-
--- the last of a list with a member
-last-any : (a b h : ℕ) (s : List ℕ) → In h s → lastOf a s ≡ lastOf b s
-last-any a b h [] m = absurd (omega arith)
-last-any a b h (x ∷ s) m = refl
 
 -- ---- star by star
 

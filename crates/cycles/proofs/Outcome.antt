@@ -5,9 +5,9 @@ use mathlib.Core.Path.{_≡_, refl, sym, ap, ap₂, _∙_}
 use mathlib.Core.Bool.{Bool, _&&_}
 use mathlib.Core.List.{List}
 use lib.Dec.{eqb}
-use lib.ListN.{length, getD, take, replicate, length-replicate, getD-replicate, List·getD-eq-default}
+use lib.ListN.{length, getD, take}
 use Rattle.lists.specs.Lists.{below, pick}
-use Rattle.lists.proofs.Counts.{by-test, by-lt, below-agree}
+use Rattle.lists.proofs.Counts.{by-test, below-agree}
 use Rattle.rules.specs.Cycles.{Arrangement, successor, label, maximalRings}
 use Rattle.rules.specs.Split.{isCut, cuts}
 use Rattle.rules.specs.Euler.{Census as Counts, someOf, touched, vertexCount, edgeCount, pieceCount, census}
@@ -23,12 +23,6 @@ use Rattle.stars.proofs.Groups.{group-active}
 use Rattle.cycles.specs.Labels.{entryOf, Labelled}
 use Rattle.cycles.specs.Cuts.{cutBy, cutsBy}
 
--- a table of zeros
-pub zeros : (k n : ℕ) → _≡_ {A = ℕ} (getD (replicate k 0) n 0) 0
-zeros k n = by-lt n k
-    (λ h. getD-replicate k n 0 0 h)
-    (λ h. List·getD-eq-default (replicate k 0) 0 (omega (arith, length-replicate {A = ℕ} k 0)))
-
 -- a star with an active half-edge touches its node
 pub group-touched : (nodes edges : ℕ) (source : List ℕ) (marks : List Bool) (star offsets grouped : List ℕ)
     → Grouped nodes source (take (2 * edges) star) offsets grouped → Sane (arrangementIn nodes edges source marks star)
@@ -41,11 +35,6 @@ group-touched nodes edges source marks star offsets grouped groups sane n l =
 pub vertices-are : (g : Arrangement) → vertexCount g ≡ length (below (touched g) (g .nodes))
 unfolding vertexCount
 vertices-are g = refl
-
--- E, its parts shut
-pub edges-are : (g : Arrangement) → edgeCount g ≡ length (below (λ k. g .active (2 * k) && g .active (2 * k + 1)) (g .edges))
-unfolding edgeCount
-edges-are g = refl
 
 -- the census, its parts shut
 pub census-is : (g : Arrangement) (v e f c : ℕ) (t : Bool) → v ≡ vertexCount g → e ≡ edgeCount g → f ≡ length (maximalRings g) → c ≡ pieceCount g

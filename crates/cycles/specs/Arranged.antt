@@ -13,6 +13,7 @@ use Rattle.rules.specs.State.{arrangementIn}
 use Rattle.rules.specs.Stages.{markEdges}
 use Rattle.rules.specs.Limits.{Limits}
 use Rattle.stars.specs.Grouped.{Grouped}
+use Rattle.tables.specs.Tables.{atStage}
 use Rattle.tables.specs.declared.PlanarGraph.{PlanarGraph}
 use Rattle.cycles.specs.declared.CutDone.{CutDone}
 use Rattle.cycles.specs.Census.{censusOf}
@@ -29,7 +30,7 @@ pub record Arranged (l : Limits) (nodes edges : ℕ) (source : List ℕ) (marks 
 
 -- the cut edges of an arrangement are counted, marked and listed, its census is taken, and the stage is 3
 pub record CutOf (g : Arrangement) (graph : PlanarGraph) (marks : List Bool) (out : List ℕ) (marks′ : List Bool) (out′ : List ℕ) (r : CutDone) : Type 0 where
-  pub advanced : r .graph ≡ record { «node_count» = graph .«node_count»; «edge_count» = graph .«edge_count»; stage = 3 }
+  pub advanced : r .graph ≡ atStage graph 3
   pub count : r .count ≡ length (cuts g)
   pub counted : censusOf (r .census) ≡ census g
   pub marked : marks′ ≡ markEdges (cuts g) marks

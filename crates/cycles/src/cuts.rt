@@ -6,13 +6,15 @@ ghost use Rattle.lists.specs.Lists.{over};
 ghost use Rattle.rules.specs.Limits.{limits};
 ghost use Rattle.rules.specs.Stages.{markEdges};
 ghost use Rattle.cycles.specs.Cuts.{cutBy, cutsBy, Cuttable};
+use tables::EdgeId;
 use tables::wide;
 
-// Whether edge k is to be cut.
-fn is_cut(k: usize, labels: &[u16], dir_edges_marked: &[bool]) -> bool
-    requires { ⌜ (2 * k + 1 < length (now labels)) × (2 * k + 1 < length (now «dir_edges_marked»)) ⌝ }
-    ensures { λ r. ⌜ r ≡ cutBy (now («dir_edges_marked» .entry)) (now (labels .entry)) k ⌝ }
+// Whether the edge is to be cut.
+fn is_cut(edge: EdgeId, labels: &[u16], dir_edges_marked: &[bool]) -> bool
+    requires { ⌜ (2 * edge .0 + 1 < length (now labels)) × (2 * edge .0 + 1 < length (now «dir_edges_marked»)) ⌝ }
+    ensures { λ r. ⌜ r ≡ cutBy (now («dir_edges_marked» .entry)) (now (labels .entry)) (edge .0) ⌝ }
 {
+    let k = wide(edge.0);
     if dir_edges_marked[2 * k] {
         return false;
     }
@@ -30,8 +32,8 @@ pub fn cut_edges(edges: u16, labels: &[u16], dir_edges_marked: &mut [bool], out:
     let mut count: u16 = 0;
     let mut k: u16 = 0;
     while k < edges {
-        let i = wide(k);
-        if is_cut(i, labels, dir_edges_marked) {
+        if is_cut(EdgeId(k), labels, dir_edges_marked) {
+            let i = wide(k);
             dir_edges_marked[2 * i] = true;
             dir_edges_marked[2 * i + 1] = true;
             out[wide(count)] = k;

@@ -15,6 +15,9 @@ ghost use Rattle.pieces.specs.Reach.{Spreadable};
 ghost use Rattle.pieces.specs.Seeds.{Placed};
 use pieces::number_pieces;
 use stars::is_active;
+use tables::DirEdgeId;
+use tables::MAX_NODES;
+use tables::PlanarGraph;
 use tables::wide;
 
 // Whether a star has an active half-edge.
@@ -24,7 +27,7 @@ fn has_active(grouped: &[u16], from: usize, to: usize, dir_edges_marked: &[bool]
 {
     let mut i = from;
     while i < to {
-        if is_active(dir_edges_marked, grouped[i]) {
+        if is_active(dir_edges_marked, DirEdgeId(grouped[i])) {
             return true;
         }
         i += 1;
@@ -34,7 +37,7 @@ fn has_active(grouped: &[u16], from: usize, to: usize, dir_edges_marked: &[bool]
 
 // V: the nodes with an active half-edge.
 fn count_vertices(
-    graph: tables::PlanarGraph,
+    graph: PlanarGraph,
     offsets: &[u16],
     grouped: &[u16],
     dir_edges_marked: &[bool],
@@ -87,7 +90,7 @@ fn euler_holds(vertices: u16, edges: u16, cycles: u16, pieces: u16) -> bool
 
 // Counts everything, given how many maximal rings there are.
 pub fn count_census(
-    graph: tables::PlanarGraph,
+    graph: PlanarGraph,
     nodes_x: &[f64],
     nodes_y: &[f64],
     offsets: &[u16],
@@ -99,7 +102,7 @@ pub fn count_census(
     requires { ⌜ (Spreadable (graph .«node_count») (graph .«edge_count») (now «dir_edges_src») (now «dir_edges_marked») (now offsets) (now grouped)) × (Placed (graph .«node_count») (now «nodes_x») (now «nodes_y»)) × (graph .«node_count» ≤ limits .nodes) × (graph .«edge_count» ≤ limits .edges) ⌝ }
     ensures { λ r. ⌜ InEach (graph .«node_count») (graph .«edge_count») (now («dir_edges_src» .entry)) (now («dir_edges_marked» .entry)) (now (offsets .entry)) (now (grouped .entry)) (λ g. cycles ≡ length (maximalRings g) → censusOf r ≡ census g) ⌝ }
 {
-    let mut numbers = [0u16; 1024];
+    let mut numbers = [0u16; MAX_NODES];
     let vertices = count_vertices(graph, offsets, grouped, dir_edges_marked);
     let edges = count_edges(graph.edge_count, dir_edges_marked);
     let pieces = number_pieces(

@@ -8,6 +8,8 @@ ghost use Rattle.rules.specs.Cycles.{cycle};
 ghost use Rattle.rules.specs.Limits.{limits};
 ghost use Rattle.rules.specs.Sane.{Live, Permutes};
 ghost use Rattle.cycles.specs.Labels.{entryOf, written, Walkable, Labelable, Labelled};
+use stars::is_active;
+use tables::DirEdgeId;
 use tables::wide;
 
 // No label yet for the first n half-edges.
@@ -23,15 +25,16 @@ fn clear_labels(labels: &mut [u16], n: usize)
 }
 
 // Writes the label at each half-edge of the cycle of start.
-fn stamp_ring(next: &[u16], labels: &mut [u16], start: usize, label: u16)
-    requires { ⌜ Walkable (now next) (now labels) start ⌝ }
-    ensures { λ _. ⌜ ((n : ℕ) (active : ℕ → Bool) → Permutes (entryOf (now (next .entry))) n active → Live n active start → now (labels .exit) ≡ written (cycle (entryOf (now (next .entry))) n start) label (now (labels .entry))) ⌝ }
+fn stamp_ring(next: &[u16], labels: &mut [u16], start: DirEdgeId, label: u16)
+    requires { ⌜ Walkable (now next) (now labels) (start .0) ⌝ }
+    ensures { λ _. ⌜ ((n : ℕ) (active : ℕ → Bool) → Permutes (entryOf (now (next .entry))) n active → Live n active (start .0) → now (labels .exit) ≡ written (cycle (entryOf (now (next .entry))) n (start .0)) label (now (labels .entry))) ⌝ }
 {
-    let mut cur = start;
+    let first = wide(start.0);
+    let mut cur = first;
     loop {
         labels[cur] = label;
         cur = wide(next[cur]);
-        if cur == start {
+        if cur == first {
             break;
         }
     }
@@ -42,18 +45,18 @@ pub fn label_rings(edges: u16, next: &[u16], dir_edges_marked: &[bool], labels: 
     requires { ⌜ Labelable limits edges (now next) (now «dir_edges_marked») (now labels) ⌝ }
     ensures { λ r. ⌜ Labelled edges (now (next .entry)) (now («dir_edges_marked» .entry)) (now (labels .exit)) r ⌝ }
 {
-    let n = 2 * wide(edges);
-    clear_labels(labels, n);
+    let halves = 2 * edges;
+    clear_labels(labels, wide(halves));
     let mut used: u16 = 0;
-    let mut k = 0;
-    while k < n {
-        if !dir_edges_marked[k] {
-            if labels[k] == 0 {
+    let mut h: u16 = 0;
+    while h < halves {
+        if is_active(dir_edges_marked, DirEdgeId(h)) {
+            if labels[wide(h)] == 0 {
                 used += 1;
-                stamp_ring(next, labels, k, used);
+                stamp_ring(next, labels, DirEdgeId(h), used);
             }
         }
-        k += 1;
+        h += 1;
     }
     used
 }

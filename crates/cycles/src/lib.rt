@@ -5,7 +5,6 @@ mod euler;
 mod labels;
 mod links;
 
-pub use cuts::cut_edges;
 pub use euler::count_census;
 pub use labels::label_rings;
 pub use links::link_successors;
@@ -15,6 +14,8 @@ ghost use Rattle.rules.specs.Limits.{limits};
 ghost use Rattle.stars.specs.Groups.{InEach};
 ghost use Rattle.pieces.specs.Seeds.{Placed};
 ghost use Rattle.cycles.specs.Arranged.{Arranged, CutOf};
+use tables::MAX_HALF_EDGES;
+use tables::PlanarGraph;
 
 // What cutting and ring extraction count: V, E, the maximal rings, C, and whether Euler's formula
 // holds of them.
@@ -29,14 +30,14 @@ pub struct Census {
 // What cutting answers: the graph in its next stage, how many edges were cut, and the census taken
 // before that.
 pub struct CutDone {
-    pub graph: tables::PlanarGraph,
+    pub graph: PlanarGraph,
     pub count: u16,
     pub census: Census,
 }
 
 // Cutting over stars that are grouped by node.
 pub fn cut_grouped(
-    graph: tables::PlanarGraph,
+    graph: PlanarGraph,
     nodes_x: &[f64],
     nodes_y: &[f64],
     offsets: &[u16],
@@ -48,8 +49,8 @@ pub fn cut_grouped(
     requires { ⌜ (Arranged limits (graph .«node_count») (graph .«edge_count») (now «dir_edges_src») (now «dir_edges_marked») (now offsets) (now grouped)) × (Placed (graph .«node_count») (now «nodes_x») (now «nodes_y»)) × (graph .«edge_count» ≤ length (now out)) ⌝ }
     ensures { λ r. ⌜ InEach (graph .«node_count») (graph .«edge_count») (now («dir_edges_src» .entry)) (now («dir_edges_marked» .entry)) (now (offsets .entry)) (now (grouped .entry)) (λ g. CutOf g graph (now («dir_edges_marked» .entry)) (now (out .entry)) (now («dir_edges_marked» .exit)) (now (out .exit)) r) ⌝ }
 {
-    let mut next = [0u16; 2048];
-    let mut labels = [0u16; 2048];
+    let mut next = [0u16; MAX_HALF_EDGES];
+    let mut labels = [0u16; MAX_HALF_EDGES];
     links::link_successors(graph, offsets, grouped, dir_edges_marked, &mut next);
     let cycles = labels::label_rings(graph.edge_count, &next, dir_edges_marked, &mut labels);
     let census = euler::count_census(
@@ -64,11 +65,7 @@ pub fn cut_grouped(
     );
     let count = cuts::cut_edges(graph.edge_count, &labels, dir_edges_marked, out);
     CutDone {
-        graph: tables::PlanarGraph {
-            node_count: graph.node_count,
-            edge_count: graph.edge_count,
-            stage: 3,
-        },
+        graph: graph.at_stage(3),
         count,
         census,
     }

@@ -7,19 +7,22 @@ ghost use Rattle.rules.specs.HalfEdge.{twin};
 ghost use Rattle.stars.specs.Groups.{unmarked, part, PartWithin, GroupsWithin};
 ghost use Rattle.cycles.specs.Links.{linkStar, Linked};
 use stars::is_active;
+use tables::DirEdgeId;
+use tables::PlanarGraph;
+use tables::twin_of;
 use tables::wide;
 
 // The last active half-edge of a star, or 0 where there is none.
-fn last_active(grouped: &[u16], from: usize, to: usize, dir_edges_marked: &[bool]) -> u16
+fn last_active(grouped: &[u16], from: usize, to: usize, dir_edges_marked: &[bool]) -> DirEdgeId
     requires { ⌜ PartWithin (length (now «dir_edges_marked»)) from to (now grouped) ⌝ }
-    ensures { λ r. ⌜ r ≡ lastOf 0 (pick (unmarked (now («dir_edges_marked» .entry))) (part from to (now (grouped .entry)))) ⌝ }
+    ensures { λ r. ⌜ r .0 ≡ lastOf 0 (pick (unmarked (now («dir_edges_marked» .entry))) (part from to (now (grouped .entry)))) ⌝ }
 {
-    let mut last = 0;
+    let mut last = DirEdgeId(0);
     let mut i = from;
     while i < to {
-        let h = grouped[i];
-        if is_active(dir_edges_marked, h) {
-            last = h;
+        let half = DirEdgeId(grouped[i]);
+        if is_active(dir_edges_marked, half) {
+            last = half;
         }
         i += 1;
     }
@@ -34,10 +37,10 @@ fn link_star(grouped: &[u16], from: usize, to: usize, dir_edges_marked: &[bool],
     let mut previous = last_active(grouped, from, to, dir_edges_marked);
     let mut i = from;
     while i < to {
-        let h = grouped[i];
-        if is_active(dir_edges_marked, h) {
-            next[wide(rules::twin_of(h))] = previous;
-            previous = h;
+        let half = DirEdgeId(grouped[i]);
+        if is_active(dir_edges_marked, half) {
+            next[wide(twin_of(half).0)] = previous.0;
+            previous = half;
         }
         i += 1;
     }
@@ -45,7 +48,7 @@ fn link_star(grouped: &[u16], from: usize, to: usize, dir_edges_marked: &[bool],
 
 // The successor of every active half-edge, star by star.
 pub fn link_successors(
-    graph: tables::PlanarGraph,
+    graph: PlanarGraph,
     offsets: &[u16],
     grouped: &[u16],
     dir_edges_marked: &[bool],

@@ -15,9 +15,9 @@ use Rattle.rules.specs.HalfEdge.{twin}
 use Rattle.rules.specs.Cycles.{Arrangement, activeStar}
 use Rattle.rules.specs.Paths.{Path}
 use Rattle.rules.specs.Sane.{Sane}
-use Rattle.rules.proofs.Values.{in-map, map-in}
-use Rattle.rules.proofs.Successor.{Leaves, star-in, star-leaves, ends}
-use Rattle.rules.proofs.Roots.{near, rootOf, path-here, path-step, path-keeps, path-root, root-joins}
+use Rattle.rules.proofs.Values.{map-in}
+use Rattle.rules.proofs.Successor.{Leaves, star-leaves, ends}
+use Rattle.rules.proofs.Roots.{near, leaves-near, rootOf, path-here, path-step, path-keeps, path-root, root-joins}
 use Rattle.pieces.specs.Reach.{reachAll, reachNew}
 use Rattle.pieces.proofs.Reaching.{reach-keeps, new-in, reach-change, reach-some}
 
@@ -46,11 +46,6 @@ module _ (g : Arrangement) (sane : Sane g) where
       let end = g .origin (twin (r .0)) in
       let p : Path g n y = path-step g n (r .0) y v (subst (λ z. Path g end z) (r .2) (path-here g end)) in
       (subst (λ z. z < g .nodes) (r .2) (ends g sane (r .0) (v .below)), sym (path-root g sane n y p))
-
-  -- where a half-edge leads is a neighbour
-  leads-near : (x h : ℕ) → Leaves g x h → In (g .origin (twin h)) (near g x)
-  leads-near x h v =
-      in-map (λ k. g .origin (twin k)) (activeStar g x) h (subst (λ z. In h (activeStar g z)) (v .origin) (star-in g sane h (v .below) (v .active)))
 
   module _ (old : List ℕ) (seed piece : ℕ) where
     -- What holds during a fill: only nodes of the piece have changed, to its number, and those that are not on the stack any
@@ -135,7 +130,7 @@ module _ (g : Arrangement) (sane : Sane g) where
     all-done pieces l f n k e =
         path-keeps g sane (λ x. (x < g .nodes) × (rootOf g x ≡ rootOf g seed) × (getD pieces x 0 ≡ piece))
         (λ x h v q.
-        let m = leads-near x h v in
+        let m = leaves-near g sane x h v in
         let r = near-same x (g .origin (twin h)) (q .0) m in
         (r .0, r .1 ∙ q .1, ⊎-elim (λ z. absurd (omega arith)) (λ z. z (g .origin (twin h)) m) (f .done x (q .0) (q .2) (q .1))))
         seed n (root-joins g sane seed n l k (sym e)) (l, refl, f .begun) .2

@@ -23,7 +23,8 @@ use Rattle.rules.specs.Sane.{Sane}
 use Rattle.rules.specs.State.{State, arrangement}
 use Rattle.rules.proofs.Orders.{never-self}
 use Rattle.rules.proofs.PieceCounts.{one-count}
-use Rattle.rules.proofs.PieceNumbers.{order-seeds, decides-seeds, is-seed-is, piece-is, nodes-are, path-seed, seed-path, seed-first, seed-inside, seed-passes, seeds-one, path-piece}
+use Rattle.rules.proofs.Claims.{nodes-are}
+use Rattle.rules.proofs.PieceNumbers.{order-seeds, decides-seeds, is-seed-is, piece-is, path-seed, seed-path, seed-first, seed-inside, seed-passes, seeds-one, path-piece}
 use Rattle.rules.proofs.Roots.{rootOf, path-here, path-back, path-root, path-touched, root-joins}
 use Rattle.pieces.specs.Numbers.{isLowest, seedsOf, Numbered}
 use Rattle.pieces.proofs.Lowest.{lowest-touched, seed-lowest}

@@ -6,18 +6,21 @@ ghost use mathlib.Core.List.{[], _∷_};
 ghost use Rattle.rules.specs.HalfEdge.{twin};
 ghost use Rattle.stars.specs.Groups.{part, groupOf, PartWithin};
 ghost use Rattle.pieces.specs.Reach.{reachNew, endsOf, Reached, Takeable, Fillable, Filled};
+use crate::end_of;
 use stars::is_active;
+use tables::DirEdgeId;
+use tables::NodeId;
 use tables::wide;
 
 // A node that has no number gets the piece's and goes on the stack.
-fn reach(n: u16, piece: u16, pieces: &mut [u16], stack: &mut [u16], top: usize) -> usize
-    requires { ⌜ (n < length (now pieces)) × (top + length (reachNew piece (n ∷ []) (now pieces)) ≤ length (now stack)) ⌝ }
-    ensures { λ r. ⌜ Reached piece (n ∷ []) (now (pieces .entry)) (now (stack .entry)) (now (pieces .exit)) (now (stack .exit)) top r ⌝ }
+fn reach(node: NodeId, piece: u16, pieces: &mut [u16], stack: &mut [u16], top: usize) -> usize
+    requires { ⌜ (node .0 < length (now pieces)) × (top + length (reachNew piece (node .0 ∷ []) (now pieces)) ≤ length (now stack)) ⌝ }
+    ensures { λ r. ⌜ Reached piece (node .0 ∷ []) (now (pieces .entry)) (now (stack .entry)) (now (pieces .exit)) (now (stack .exit)) top r ⌝ }
 {
-    let i = wide(n);
-    if pieces[i] == 0 {
-        pieces[i] = piece;
-        stack[top] = n;
+    let n = wide(node.0);
+    if pieces[n] == 0 {
+        pieces[n] = piece;
+        stack[top] = node.0;
         return top + 1;
     }
     top
@@ -41,10 +44,10 @@ fn reach_star(
     let mut height = top;
     let mut i = from;
     while i < to {
-        let h = grouped[i];
-        if is_active(dir_edges_marked, h) {
-            let n = dir_edges_src[wide(rules::twin_of(h))];
-            height = reach(n, piece, pieces, stack, height);
+        let half = DirEdgeId(grouped[i]);
+        if is_active(dir_edges_marked, half) {
+            let end = end_of(dir_edges_src, half);
+            height = reach(end, piece, pieces, stack, height);
         }
         i += 1;
     }
@@ -87,13 +90,13 @@ pub fn fill_piece(
     grouped: &[u16],
     dir_edges_src: &[u16],
     dir_edges_marked: &[bool],
-    seed: u16,
+    seed: NodeId,
     piece: u16,
     pieces: &mut [u16],
     stack: &mut [u16],
 )
-    requires { ⌜ Fillable (now «dir_edges_src») (now «dir_edges_marked») (now offsets) (now grouped) (now pieces) (now stack) seed piece ⌝ }
-    ensures { λ _. ⌜ Filled (now («dir_edges_src» .entry)) (now («dir_edges_marked» .entry)) (now (offsets .entry)) (now (grouped .entry)) seed piece (now (pieces .entry)) (now (pieces .exit)) ⌝ }
+    requires { ⌜ Fillable (now «dir_edges_src») (now «dir_edges_marked») (now offsets) (now grouped) (now pieces) (now stack) (seed .0) piece ⌝ }
+    ensures { λ _. ⌜ Filled (now («dir_edges_src» .entry)) (now («dir_edges_marked» .entry)) (now (offsets .entry)) (now (grouped .entry)) (seed .0) piece (now (pieces .entry)) (now (pieces .exit)) ⌝ }
 {
     let mut top = reach(seed, piece, pieces, stack, 0);
     while 0 < top {

@@ -4,6 +4,8 @@ ghost use Rattle.rules.specs.Limits.{limits};
 ghost use Rattle.pieces.specs.Numbers.{InEachState, Numbered, Swept, Sweepable, Numberable};
 use crate::fill::fill_piece;
 use crate::seeds::order_seeds;
+use tables::MAX_NODES;
+use tables::NodeId;
 use tables::PlanarGraph;
 use tables::wide;
 
@@ -19,21 +21,21 @@ fn fill_seeds(
     pieces: &mut [u16],
     stack: &mut [u16],
 ) -> u16
-    requires { ⌜ Sweepable (now «dir_edges_src») (now «dir_edges_marked») (now offsets) (now grouped) (now order) seeds (now pieces) (now stack) ⌝ }
+    requires { ⌜ Sweepable limits (now «dir_edges_src») (now «dir_edges_marked») (now offsets) (now grouped) (now order) seeds (now pieces) (now stack) ⌝ }
     ensures { λ r. ⌜ Swept (now («dir_edges_src» .entry)) (now («dir_edges_marked» .entry)) (now (offsets .entry)) (now (grouped .entry)) (take seeds (now (order .entry))) (now (pieces .entry)) (now (pieces .exit)) r ⌝ }
 {
     let mut count: u16 = 0;
     let mut i = 0;
     while i < seeds {
-        let k = order[i];
-        if pieces[wide(k)] == 0 {
+        let seed = NodeId(order[i]);
+        if pieces[wide(seed.0)] == 0 {
             count += 1;
             fill_piece(
                 offsets,
                 grouped,
                 dir_edges_src,
                 dir_edges_marked,
-                k,
+                seed,
                 count,
                 pieces,
                 stack,
@@ -59,8 +61,8 @@ pub fn number_pieces(
     requires { ⌜ Numberable limits (graph .«node_count») (graph .«edge_count») (now «nodes_x») (now «nodes_y») (now «dir_edges_src») (now «dir_edges_marked») (now offsets) (now grouped) (now pieces) ⌝ }
     ensures { λ r. ⌜ InEachState graph (now («nodes_x» .entry)) (now («nodes_y» .entry)) (now («dir_edges_src» .entry)) (now («dir_edges_marked» .entry)) (now (offsets .entry)) (now (grouped .entry)) (λ s. Numbered s (now (pieces .exit)) r) ⌝ }
 {
-    let mut order = [0u16; tables::MAX_NODES];
-    let mut stack = [0u16; tables::MAX_NODES];
+    let mut order = [0u16; MAX_NODES];
+    let mut stack = [0u16; MAX_NODES];
     let seeds = order_seeds(
         graph,
         nodes_x,

@@ -12,7 +12,8 @@ use Rattle.rules.specs.Counted.{Counted}
 use Rattle.tables.specs.Regions.{sourcesIn, starTableIn, degreesIn, nodeMarksIn, halfMarksIn}
 use Rattle.tables.specs.declared.PlanarGraph.{PlanarGraph}
 use Rattle.stars.specs.Grouped.{Grouped}
-use Rattle.pruning.specs.Groups.{groupOf, originIn, Prunable}
+use Rattle.stars.specs.Groups.{groupOf}
+use Rattle.pruning.specs.Given.{originIn, Prunable}
 use Rattle.pruning.proofs.Groups.{stars-agree, counted-agree, prune-agree}
 use Rattle.prune_entry.specs.Given.{starsIn, SlicePrunable, prunedIn}
 

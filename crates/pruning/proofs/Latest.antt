@@ -1,15 +1,17 @@
 -- The first entries of a list, the last first: as a stack, and as edges in the order found.
-use Prim.Native.Nat.{ℕ, zero, suc, _+_, _-_, _<_, _≤_}
+use Prim.Native.Nat.{ℕ, suc, _+_, _<_, _≤_}
 use native.Mathlib.Numerals.{add-one}
-use native.Mathlib.Omega.{arith}
-use mathlib.Core.Path.{_≡_, refl, sym, ap, subst, _∙_}
+use mathlib.Core.Path.{_≡_, sym, ap, subst, _∙_}
 use mathlib.Core.Bool.{Bool, true, false, cond}
 use mathlib.Core.List.{List, [], _∷_, _++_, reverse, reverse-append, reverse-reverse, append-nil}
 use lib.ListN.{length, getD, set, take, drop, take-append-drop, length-reverse}
-use lib.Seq.{take-suc, take-suc-set, length-take-le, drop-cons}
+use lib.Seq.{take-suc, take-suc-set, length-take-le}
+use borrow.Author.Tests.{not-true, not-false}
 use Rattle.lists.specs.Lists.{below, over, In}
-use Rattle.lists.proofs.Counts.{in-head, in-tail}
+use Rattle.lists.proofs.Counts.{in-tail}
 use Rattle.rules.specs.Prune.{firstActive, push}
+use Rattle.stars.specs.Groups.{unmarked, part}
+use Rattle.stars.proofs.Groups.{part-cons}
 use Rattle.pruning.specs.Steps.{latest}
 
 -- one entry more
@@ -50,40 +52,15 @@ over-latest k old l h rest = sym (
     ∙ take-append-drop k l
     )
 
--- a part of a list from its first entry on
-pub part-more : (from to : ℕ) (l : List ℕ) → from < to → to ≤ length l
-    → take (to - from) (drop from l) ≡ getD l from 0 ∷ take (to - (from + 1)) (drop (from + 1) l)
-part-more from to l h k =
-    let e : to - from ≡ suc (to - (from + 1)) = omega arith in
-    ap (λ n. take n (drop from l)) e
-    ∙ ap (take (suc (to - (from + 1)))) (drop-cons l from 0 (omega arith))
-    ∙ ap (λ j. getD l from 0 ∷ take (to - (from + 1)) (drop j l)) (sym (add-one from))
-
--- an empty part
-pub part-none : (from to : ℕ) (l : List ℕ) → to ≤ from → take (to - from) (drop from l) ≡ []
-part-none from to l h = let e : to - from ≡ 0 = omega arith in ap (λ n. take n (drop from l)) e
-
--- what stands within a list does not depend on what is read past its end
-pub any-default : (ms : List Bool) (i : ℕ) (b : Bool) → i < length ms → getD ms i false ≡ b → getD ms i true ≡ b
-any-default [] i b h e = absurd (omega arith)
-any-default (m ∷ ms) zero b h e = e
-any-default (m ∷ ms) (suc i) b h e = any-default ms i b (omega arith) e
-
 module _ (ms : List Bool) (from to : ℕ) (l : List ℕ) (h : from < to) (k : to ≤ length l) where
   -- the first half-edge of a part is active
-  pub first-here : getD ms (getD l from 0) true ≡ false → firstActive ms 0 (take (to - from) (drop from l)) ≡ getD l from 0
-  first-here e = ap (firstActive ms 0) (part-more from to l h k)
-      ∙ ap (λ b. cond b (firstActive ms 0 (take (to - (from + 1)) (drop (from + 1) l))) (getD l from 0)) e
+  pub first-here : unmarked ms (getD l from 0) ≡ true → firstActive ms 0 (part from to l) ≡ getD l from 0
+  first-here e = ap (firstActive ms 0) (part-cons from to l h k) ∙ ap (λ b. cond b (firstActive ms 0 (part (from + 1) to l)) (getD l from 0)) (not-true (getD ms (getD l from 0) true) e)
 
   -- it is not
-  pub first-later : getD ms (getD l from 0) true ≡ true → firstActive ms 0 (take (to - from) (drop from l)) ≡ firstActive ms 0 (take (to - (from + 1)) (drop (from + 1) l))
-  first-later e = ap (firstActive ms 0) (part-more from to l h k)
-      ∙ ap (λ b. cond b (firstActive ms 0 (take (to - (from + 1)) (drop (from + 1) l))) (getD l from 0)) e
+  pub first-later : unmarked ms (getD l from 0) ≡ false → firstActive ms 0 (part from to l) ≡ firstActive ms 0 (part (from + 1) to l)
+  first-later e = ap (firstActive ms 0) (part-cons from to l h k) ∙ ap (λ b. cond b (firstActive ms 0 (part (from + 1) to l)) (getD l from 0)) (not-false (getD ms (getD l from 0) true) e)
 
-  -- it stands there
-  pub first-in : In (getD l from 0) (take (to - from) (drop from l))
-  first-in = subst (λ s. In (getD l from 0) s) (sym (part-more from to l h k)) (in-head (getD l from 0) (getD l from 0) (take (to - (from + 1)) (drop (from + 1) l)) refl)
-
-  -- and so do the others
-  pub later-in : (x : ℕ) → In x (take (to - (from + 1)) (drop (from + 1) l)) → In x (take (to - from) (drop from l))
-  later-in x m = subst (λ s. In x s) (sym (part-more from to l h k)) (in-tail x (getD l from 0) (take (to - (from + 1)) (drop (from + 1) l)) m)
+  -- the others stand in the part too
+  pub later-in : (x : ℕ) → In x (part (from + 1) to l) → In x (part from to l)
+  later-in x m = subst (λ s. In x s) (sym (part-cons from to l h k)) (in-tail x (getD l from 0) (part (from + 1) to l) m)

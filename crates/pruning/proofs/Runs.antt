@@ -12,8 +12,9 @@ use Rattle.rules.specs.Limits.{Limits}
 use Rattle.rules.specs.Prune.{Pruning, takeFrom, prune}
 use Rattle.rules.proofs.Dangles.{found-le}
 use Rattle.rules.proofs.PruneEnds.{remaining, remaining-less, Underway, underway-start, underway-turn, underway-end}
+use Rattle.stars.specs.Groups.{groupOf}
 use Rattle.pruning.specs.declared.Progress.{Progress}
-use Rattle.pruning.specs.Groups.{groupOf, originIn, Prunable}
+use Rattle.pruning.specs.Given.{originIn, Prunable}
 use Rattle.pruning.specs.Steps.{leaf, latest, tablesAt, Reached, Turning, topOf}
 use Rattle.pruning.proofs.Latest.{length-latest, over-latest}
 use Rattle.pruning.proofs.Turns.{stack-is, takes}
@@ -67,7 +68,7 @@ module _ (l : Limits) (nodes edges : ℕ) (offsets grouped source ds₀ : List �
       -- where an edge is taken, the list has room for it
       list-room : getD ds (topOf stack at) 0 ≡ 1 → at .found < length out
       list-room one =
-          let e = takes (groupOf offsets grouped) (originIn source) ds nm hm stack out at some (r .reached .stackRoom) (topOf stack at) _ refl one refl in
+          let e = takes (groupOf offsets grouped) (originIn source) ds nm hm stack out at some (r .reached .stackRoom) _ one refl in
           omega (
             arith,
             r .listSize,

@@ -5,7 +5,7 @@ use native.Mathlib.Omega.{arith}
 use mathlib.Core.Path.{_≡_, sym, ap, subst, _∙_}
 use mathlib.Core.Bool.{Bool, true}
 use mathlib.Core.List.{List, _∷_}
-use lib.ListN.{length, getD, set, take, drop, length-set}
+use lib.ListN.{length, getD, set, length-set}
 use lib.Seq.{drop-set-lt}
 use Rattle.lists.specs.Lists.{In}
 use Rattle.rules.specs.HalfEdge.{twin, edgeOf}
@@ -13,8 +13,10 @@ use Rattle.rules.specs.Prune.{firstActive, push, takeNode, takeFrom}
 use Rattle.rules.specs.Counted.{Counted}
 use Rattle.rules.proofs.Dangles.{dangle, other-some}
 use Rattle.rules.proofs.PruneEnds.{turn-takes, turn-leaves}
+use Rattle.stars.specs.Groups.{part, groupOf}
+use Rattle.stars.proofs.Groups.{group-part}
 use Rattle.pruning.specs.declared.Progress.{Progress}
-use Rattle.pruning.specs.Groups.{groupOf, originIn, Starred}
+use Rattle.pruning.specs.Given.{originIn, Starred}
 use Rattle.pruning.specs.Steps.{leaf, latest, tablesAt, Reached, Takeable, topOf}
 use Rattle.pruning.proofs.Latest.{latest-more, latest-set}
 
@@ -22,18 +24,14 @@ use Rattle.pruning.proofs.Latest.{latest-more, latest-set}
 abbrev pub lower : Progress → Progress
 lower at = record { stacked = at .stacked - 1; found = at .found }
 
--- a node's part, from its bounds
-pub part-is : (offsets grouped : List ℕ) (t from to : ℕ) → from ≡ getD offsets t 0 → to ≡ getD offsets (t + 1) 0 → take (to - from) (drop from grouped) ≡ groupOf offsets grouped t
-part-is offsets grouped t from to a b = λ i. take ((b ∙ ap (λ k. getD offsets k 0) (add-one t)) i - a i) (drop (a i) grouped)
-
 module _ (nodes edges : ℕ) (offsets grouped source ds : List ℕ) (nm hm : List Bool) (s : Starred nodes edges offsets grouped source)
     (c : Counted nodes edges (groupOf offsets grouped) ds nm hm) (t : ℕ) (lt : t < nodes) where
   -- its half-edges have marks
   pub part-low : (from to : ℕ) → from ≡ getD offsets t 0 → to ≡ getD offsets (t + 1) 0
-      → (to ≤ length grouped) × ((h : ℕ) → In h (take (to - from) (drop from grouped)) → h < length hm)
+      → (to ≤ length grouped) × ((h : ℕ) → In h (part from to grouped) → h < length hm)
   part-low from to a b = (
     omega (arith, s .ends t lt, ap (λ k. getD offsets k 0) (add-one t)),
-    λ h m. omega (arith, c .halfRoom, s .stars .only t h lt (subst (λ l. In h l) (part-is offsets grouped t from to a b) m) .0),
+    λ h m. omega (arith, c .halfRoom, s .stars .only t h lt (subst (λ l. In h l) (group-part offsets grouped t from to a b) m) .0),
   )
 
   -- node t can be taken with its first active half-edge
@@ -65,21 +63,20 @@ stack-is stack at some room =
 module _ (star : ℕ → List ℕ) (origin : ℕ → ℕ) (ds : List ℕ) (nm hm : List Bool) (stack out : List ℕ) (at : Progress)
     (some : 0 < at .stacked) (room : at .stacked ≤ length stack) where
   -- a node whose degree is no longer 1 only leaves the stack
-  pub leaves : (t : ℕ) → t ≡ topOf stack at → (getD ds t 0 ≡ 1 → ⊥)
+  pub leaves : (getD ds (topOf stack at) 0 ≡ 1 → ⊥)
       → tablesAt ds nm hm stack out (lower at) ≡ takeFrom star origin (latest (at .stacked) stack) (tablesAt ds nm hm stack out at)
-  leaves t e d = sym (
+  leaves d = sym (
       ap (λ l. takeFrom star origin l (tablesAt ds nm hm stack out at)) (stack-is stack at some room)
-      ∙ turn-leaves star origin (topOf stack at) (latest (at .stacked - 1) stack) (tablesAt ds nm hm stack out at) (λ q. d (ap (λ i. getD ds i 0) e ∙ q))
+      ∙ turn-leaves star origin (topOf stack at) (latest (at .stacked - 1) stack) (tablesAt ds nm hm stack out at) d
       )
 
   -- any other is taken
-  pub takes : (t h : ℕ) → t ≡ topOf stack at → getD ds t 0 ≡ 1 → h ≡ firstActive hm 0 (star t)
-      → takeNode t h (origin (twin h)) (tablesAt ds nm hm stack out (lower at)) ≡ takeFrom star origin (latest (at .stacked) stack) (tablesAt ds nm hm stack out at)
-  takes t h e one f = sym (
+  pub takes : (h : ℕ) → getD ds (topOf stack at) 0 ≡ 1 → h ≡ firstActive hm 0 (star (topOf stack at))
+      → takeNode (topOf stack at) h (origin (twin h)) (tablesAt ds nm hm stack out (lower at)) ≡ takeFrom star origin (latest (at .stacked) stack) (tablesAt ds nm hm stack out at)
+  takes h one f = sym (
       ap (λ l. takeFrom star origin l (tablesAt ds nm hm stack out at)) (stack-is stack at some room)
-      ∙ turn-takes star origin (topOf stack at) (latest (at .stacked - 1) stack) (tablesAt ds nm hm stack out at) (ap (λ i. getD ds i 0) (sym e) ∙ one)
-      ∙ ap (λ i. takeNode i (firstActive hm 0 (star i)) (origin (twin (firstActive hm 0 (star i)))) (tablesAt ds nm hm stack out (lower at))) (sym e)
-      ∙ ap (λ x. takeNode t x (origin (twin x)) (tablesAt ds nm hm stack out (lower at))) (sym f)
+      ∙ turn-takes star origin (topOf stack at) (latest (at .stacked - 1) stack) (tablesAt ds nm hm stack out at) one
+      ∙ ap (λ x. takeNode (topOf stack at) x (origin (twin x)) (tablesAt ds nm hm stack out (lower at))) (sym f)
       )
 
 -- the tables that taking a node writes

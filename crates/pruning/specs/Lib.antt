@@ -1,3 +1,3 @@
 -- What pruning asks of the tables, and what its parts leave.
-pub mod Groups
+pub mod Given
 pub mod Steps

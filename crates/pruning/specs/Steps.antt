@@ -9,10 +9,12 @@ use Rattle.rules.specs.HalfEdge.{twin}
 use Rattle.rules.specs.Prune.{Pruning}
 use Rattle.rules.specs.Counted.{Counted}
 use Rattle.lists.specs.Lists.{over}
+use Rattle.tables.specs.Tables.{atStage}
 use Rattle.tables.specs.declared.PlanarGraph.{PlanarGraph}
+use Rattle.stars.specs.Groups.{groupOf}
 use Rattle.pruning.specs.declared.Progress.{Progress}
 use Rattle.pruning.specs.declared.PruneDone.{PruneDone}
-use Rattle.pruning.specs.Groups.{groupOf, originIn, Starred}
+use Rattle.pruning.specs.Given.{originIn, Starred}
 
 -- an unmarked node of degree 1
 abbrev pub leaf : List ℕ → List Bool → ℕ → Bool
@@ -75,6 +77,4 @@ pub record Left (graph : PlanarGraph) (p : Pruning) (degrees : List ℕ) (nodeMa
   pub halfMark : halfMarks ≡ p .halfMarks
   pub listed : out ≡ over (reverse (p .found)) old
   pub count : r .count ≡ length (p .found)
-  pub nodes : r .graph .«node_count» ≡ graph .«node_count»
-  pub edges : r .graph .«edge_count» ≡ graph .«edge_count»
-  pub stage : r .graph .stage ≡ 2
+  pub advanced : r .graph ≡ atStage graph 2

@@ -6,6 +6,7 @@ ghost use Prim.Native.Nat.{_*_, _≤_};
 ghost use lib.ListN.{length, replicate};
 ghost use Rattle.lists.specs.Lists.{upto, over};
 ghost use Rattle.rules.specs.Limits.{limits};
+ghost use Rattle.tables.specs.Tables.{atStage};
 ghost use Rattle.tables.specs.Tests.{startsAt};
 ghost use Rattle.tables.specs.Given.{Resettable};
 ghost use Rattle.tables.specs.Regions.{sourcesIn, starTableIn, degreesIn, nodeMarksIn, halfMarksIn, leastNumbers, leastStars, leastMarks};
@@ -24,7 +25,7 @@ pub fn reset_regions(
 ) -> PlanarGraph
     requires { ⌜ (leastNumbers limits ≤ length (now numbers)) × (leastStars limits ≤ length (now stars)) × (leastMarks limits ≤ length (now marks)) ⌝ }
     requires { ⌜ Resettable limits (graph .«node_count») (graph .«edge_count») (sourcesIn limits (now numbers)) (degreesIn limits (now stars)) (nodeMarksIn limits (now marks)) (halfMarksIn limits (now marks)) ⌝ }
-    ensures graph { λ r. ⌜ r ≡ record { «node_count» = graph .«node_count»; «edge_count» = graph .«edge_count»; stage = 0 } ⌝ }
+    ensures graph { λ r. ⌜ r ≡ atStage graph 0 ⌝ }
     ensures star { λ _. ⌜ starTableIn limits (now (stars .exit)) ≡ starTableIn limits (now (stars .entry)) ⌝ }
     ensures degrees { λ _. ⌜ degreesIn limits (now (stars .exit)) ≡ over (map (startsAt (sourcesIn limits (now (numbers .entry))) (2 * graph .«edge_count»)) (upto (graph .«node_count»))) (degreesIn limits (now (stars .entry))) ⌝ }
     ensures nodes { λ _. ⌜ nodeMarksIn limits (now (marks .exit)) ≡ over (replicate (graph .«node_count») false) (nodeMarksIn limits (now (marks .entry))) ⌝ }
@@ -36,9 +37,5 @@ pub fn reset_regions(
     tables::write_degrees(nodes, &counts, &mut stars[DEGREES..]);
     tables::clear_marks(nodes, &mut marks[0..HALF_MARKS]);
     tables::clear_marks(halves, &mut marks[HALF_MARKS..]);
-    PlanarGraph {
-        node_count: graph.node_count,
-        edge_count: graph.edge_count,
-        stage: 0,
-    }
+    graph.at_stage(0)
 }

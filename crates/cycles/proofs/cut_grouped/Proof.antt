@@ -1,6 +1,8 @@
 -- `cycles::cut_grouped` meets its contract. What the callees ensure, put together by the laws of `Outcome`.
 use native.Mathlib.Omega.{arith}
-use mathlib.Core.Path.{refl, ap, _∙_}
+use Prim.Native.Nat.{ℕ}
+use mathlib.Core.Path.{ap, _∙_}
+use mathlib.Core.List.{List}
 use Rattle.lists.specs.Lists.{over}
 use lib.ListN.{length}
 use Rattle.rules.specs.Stages.{markEdges}
@@ -27,23 +29,35 @@ slice-aggregate-label-rings c = search needs
 slice-aggregate-label-rings-2 : tie.Need-slice-aggregate-label-rings-2
 slice-aggregate-label-rings-2 c = search needs
 
+-- the function's start
+abbrev entry : tie.After-link-successors → tie.Start
+entry c = c .before .before .before .before .before .before .before .before .before .before
+
+-- the table of successors
+abbrev next : tie.After-link-successors → List ℕ
+next c = c .link-successors .last .1 .1 .1 .1 .0
+
 label-rings-requires : tie.Need-label-rings-requires
 label-rings-requires c κs =
-    let s = c .before .before .before .before .before .before .before .before .before .before .before .before .before .before in
+    let k = c .before .before .before .before in
+    let s = entry k in
     let p = s .pre .0 in
     let graph = s .args .graph in
-    let next = c .before .before .before .before .link-successors .last .1 .1 .1 .1 .0 in
     record {
-      permutes = next-permutes (graph .«node_count») (graph .«edge_count») (s .args .dir-edges-src .now) (s .args .dir-edges-marked .now) (p .star) next (p .sane) (c .before .before .before .before .link-successors .ensures (s .args .dir-edges-src .now) (p .star) (p .groups) (p .sane));
+      permutes = next-permutes (graph .«node_count») (graph .«edge_count») (s .args .dir-edges-src .now) (s .args .dir-edges-marked .now) (p .star) (next k) (p .sane) (k .link-successors .ensures (s .args .dir-edges-src .now) (p .star) (p .groups) (p .sane));
       few = p .fewEdges;
-      inNext = omega (arith, p .fewEdges, c .before .before .before .before .link-successors .kept .1 .1 .1 .1 .0);
+      inNext = omega (arith, p .fewEdges, k .link-successors .kept .1 .1 .1 .1 .0);
       inMarks = p .inMarks;
       inLabels = omega (arith, p .fewEdges);
     }
 
+-- where the successors are, seen from where the rings are labelled
+abbrev linking : tie.After-label-rings → tie.After-link-successors
+linking c = c .before .before .before .before .before
+
 count-census-requires : tie.Need-count-census-requires
 count-census-requires c κs =
-    let s = c .before .before .before .before .before .before .before .before .before .before .before .before .before .before .before .before .before in
+    let s = entry (linking (c .before .before)) in
     let p = s .pre .0 in
     let graph = s .args .graph in
     (spreads (graph .«node_count») (graph .«edge_count») (s .args .dir-edges-src .now) (s .args .dir-edges-marked .now) (s .args .offsets .now) (s .args .grouped .now) (p .star) (p .groups) (p .sane) (p .inSource) (p .inMarks), s .pre .1, p .fewNodes, p .fewEdges)
@@ -53,36 +67,40 @@ slice-aggregate-cut-edges c = search needs
 
 cut-edges-requires : tie.Need-cut-edges-requires
 cut-edges-requires c κs =
-    let s = c .before .before .before .before .before .before .before .before .before .before .before .before .before .before .before .before .before .before .before .before .before in
+    let k = c .before .before .before .before .before .before in
+    let s = entry (linking k) in
     let p = s .pre .0 in
     record {
       few = p .fewEdges;
-      inLabels = omega (arith, p .fewEdges, c .before .before .before .before .before .before .label-rings .kept .1 .1 .1 .0);
+      inLabels = omega (arith, p .fewEdges, k .label-rings .kept .1 .1 .1 .0);
       inMarks = p .inMarks;
       inOut = s .pre .2;
     }
 
+at-stage-requires : tie.Need-at-stage-requires
+at-stage-requires c κs = tt
+
 same-length : tie.Need-same-length
-same-length c = search needs
+same-length c = c .before .before .before .before .before .cut-edges .kept .1 .1 .0
 
 same-length-2 : tie.Need-same-length-2
-same-length-2 c = search needs
+same-length-2 c = c .before .before .before .before .before .cut-edges .kept .1 .1 .1 .0
 
 returns : tie.Need-returns
 returns c =
-    let s = c .before .before .before .before .before .before .before .before .before .before .before .before .before .before .before .before .before .before .before .before .before .before .before .before .before .before in
+    let k = c .before .before .before .before .before .before .before .before .before .before .before .before in
+    let s = entry (linking k) in
     let graph = s .args .graph in
-    let next = c .before .before .before .before .before .before .before .before .before .before .before .before .before .before .before .before .link-successors .last .1 .1 .1 .1 .0 in
-    let labels = c .before .before .before .before .before .before .before .before .before .before .before .label-rings .last .1 .1 .1 .0 in
-    let done = c .before .before .before .before .cut-edges .ensures in
+    let labels = k .label-rings .last .1 .1 .1 .0 in
+    let done = c .before .before .before .before .before .cut-edges .ensures in
     λ star gs sane.
-    let linked = c .before .before .before .before .before .before .before .before .before .before .before .before .before .before .before .before .link-successors .ensures (s .args .dir-edges-src .now) star gs sane in
-    let rings = rings-right (graph .«node_count») (graph .«edge_count») (s .args .dir-edges-src .now) (s .args .dir-edges-marked .now) star next sane linked labels (c .before .before .before .before .before .before .before .before .before .before .before .label-rings .result) (c .before .before .before .before .before .before .before .before .before .before .before .label-rings .ensures) in
-    let found = cuts-right (graph .«node_count») (graph .«edge_count») (s .args .dir-edges-src .now) (s .args .dir-edges-marked .now) star next sane linked labels (c .before .before .before .before .before .before .before .before .before .before .before .label-rings .result) (c .before .before .before .before .before .before .before .before .before .before .before .label-rings .ensures) in
+    let linked = linking k .link-successors .ensures (s .args .dir-edges-src .now) star gs sane in
+    let rings = rings-right (graph .«node_count») (graph .«edge_count») (s .args .dir-edges-src .now) (s .args .dir-edges-marked .now) star (next (linking k)) sane linked labels (k .label-rings .result) (k .label-rings .ensures) in
+    let found = cuts-right (graph .«node_count») (graph .«edge_count») (s .args .dir-edges-src .now) (s .args .dir-edges-marked .now) star (next (linking k)) sane linked labels (k .label-rings .result) (k .label-rings .ensures) in
     record {
-      advanced = refl;
+      advanced = c .at-stage .ensures;
       count = done .0 ∙ ap length found;
-      counted = c .before .before .before .before .before .before .before .before .count-census .ensures star gs sane rings;
+      counted = c .before .before .before .before .before .before .before .before .before .count-census .ensures star gs sane rings;
       marked = done .1 ∙ ap (λ ks. markEdges ks (s .args .dir-edges-marked .now)) found;
       listed = done .2 ∙ ap (λ ks. over ks (s .args .out .now)) found;
     }
@@ -99,6 +117,7 @@ cut-grouped-spec =
     count-census-requires
     slice-aggregate-cut-edges
     cut-edges-requires
+    at-stage-requires
     same-length
     same-length-2
     returns)

@@ -106,7 +106,7 @@ returns-3 c =
     let found = prunedIn limits (a .graph) numbers (a .stars .now) (a .marks .now) .found in
     let e = r .prune-regions .ensures .0 in
     (λ i. leftWith (success ((e .count ∙ sym (length-reverse found)) i))
-    (stateOf (record { «node_count» = e .nodes i; «edge_count» = e .edges i; stage = e .stage i }) (xsIn limits floats) (ysIn limits floats) (zsIn limits floats) (e .degree i) (e .nodeMark i)
+    (stateOf (e .advanced i) (xsIn limits floats) (ysIn limits floats) (zsIn limits floats) (e .degree i) (e .nodeMark i)
     (segmentsIn limits floats) (a .ids .now) (sourcesIn limits numbers) (targetsIn limits numbers) (e .halfMark i) (r .prune-regions .ensures .1 i))
     (e .listed i))
     ∙ prune-passes limits (held k) (a .out .now) (good d .0) (good d .1) (long f)

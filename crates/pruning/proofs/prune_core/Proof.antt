@@ -14,7 +14,7 @@ use Rattle.pruning.proofs.prune_core.Tie as tie
 abbrev Inv-loop : tie.InvT-loop
 Inv-loop graph offsets grouped dir-edges-src nodes-degree₀ nodes-marked₀ dir-edges-marked₀ out₀ stack₀ stacked at₀ nodes-degree nodes-marked dir-edges-marked out stack at =
     Running limits (graph .«node_count») (graph .«edge_count») offsets grouped dir-edges-src nodes-degree₀ nodes-marked₀ dir-edges-marked₀ out₀ nodes-degree nodes-marked dir-edges-marked stack out at
-    × (length stack ≡ 1024)
+    × (length stack ≡ limits .nodes)
     × (length nodes-degree ≡ length nodes-degree₀)
     × (length nodes-marked ≡ length nodes-marked₀)
     × (length dir-edges-marked ≡ length dir-edges-marked₀)
@@ -27,26 +27,33 @@ slice-aggregate-stack-leaves : tie.Need-slice-aggregate-stack-leaves Inv-loop μ
 slice-aggregate-stack-leaves c = refl
 
 stack-leaves-requires : tie.Need-stack-leaves-requires Inv-loop μ-loop
-stack-leaves-requires c κs = omega (arith, c .before .before .before .before .before .before .before .before .before .before .pre .fewNodes, c .before .before .before .before .before .before .before .before .before .before .pre .counted .degreeRoom, c .before .before .before .before .before .before .before .before .before .before .pre .counted .nodeRoom)
+stack-leaves-requires c κs = let p = c .before .before .before .before .before .before .before .before .before .before .pre in omega (arith, p .fewNodes, p .counted .degreeRoom, p .counted .nodeRoom)
 
 loop-holds : tie.Need-loop-holds Inv-loop μ-loop
-loop-holds c = let a = c .before .before .before .before .before .before .before .before .before .before .before .before .args in
+loop-holds c =
+    let a = c .before .before .before .before .before .before .before .before .before .before .before .before .args in
     let p = c .before .before .before .before .before .before .before .before .before .before .before .before .pre in
     let s = c .before .stack-leaves in
-    let size : length (s .last .1 .1 .1 .0) ≡ 1024 = s .kept .1 .1 .1 .0 in
+    let size : length (s .last .1 .1 .1 .0) ≡ limits .nodes = s .kept .1 .1 .1 .0 in
     (run-start limits (a .graph .«node_count») (a .graph .«edge_count») (a .offsets .now) (a .grouped .now) (a .dir-edges-src .now) (a .nodes-degree .now) (a .nodes-marked .now) (a .dir-edges-marked .now) (a .out .now) (s .result) (s .last .1 .1 .1 .0) p (omega (arith, p .fewNodes)) (s .ensures .0) (s .ensures .1), size, refl, refl, refl)
 
 slice-aggregate-turn : tie.Need-slice-aggregate-turn Inv-loop μ-loop
 slice-aggregate-turn c = sym (c .before .before .before .before .before .before .loop .inv .1)
 
+-- the function's start
+abbrev entry : tie.At-loop Inv-loop μ-loop → tie.Start Inv-loop μ-loop
+entry c = c .before .before .before .before .before .before .before .before .before .before .before .before .before
+
 turn-requires : tie.Need-turn-requires Inv-loop μ-loop
-turn-requires c κs = let a = c .before .before .before .before .before .before .before .before .before .before .before .before .before .before .before .before .before .before .before .before .args in
+turn-requires c κs =
+    let a = entry (c .before .before .before .before .before .before .before) .args in
     let q = c .before .before .before .before .before .before .before .loop in
     run-turning limits (a .graph .«node_count») (a .graph .«edge_count») (a .offsets .now) (a .grouped .now) (a .dir-edges-src .now) (a .nodes-degree .now) (a .nodes-marked .now) (a .dir-edges-marked .now) (a .out .now)
     (q .nodes-degree) (q .nodes-marked) (q .dir-edges-marked) (q .stack) (q .out) (q .at) (q .inv .0) (c .before .before .before .before .before .if1 .taken)
 
 loop-less : tie.Need-loop-less Inv-loop μ-loop
-loop-less c = let a = c .before .before .before .before .before .before .before .before .before .before .before .before .before .before .before .before .before .before .before .before .before .before .before .before .before .before .before .before .before .before .args in
+loop-less c =
+    let a = entry (c .before .before .before .before .before .before .before .before .before .before .before .before .before .before .before .before .before) .args in
     let q = c .before .before .before .before .before .before .before .before .before .before .before .before .before .before .before .before .before .loop in
     let t = c .before .before .before .before .before .before .before .before .before .turn in
     run-less limits (a .graph .«node_count») (a .graph .«edge_count») (a .offsets .now) (a .grouped .now) (a .dir-edges-src .now) (a .nodes-degree .now) (a .nodes-marked .now) (a .dir-edges-marked .now) (a .out .now)
@@ -54,7 +61,8 @@ loop-less c = let a = c .before .before .before .before .before .before .before 
     (t .last .1 .1 .1 .0) (t .last .1 .1 .1 .1 .0) (t .last .1 .1 .1 .1 .1 .0) (t .last .1 .1 .1 .1 .1 .1 .0) (t .last .1 .1 .1 .1 .1 .1 .1 .0) (t .result) (t .ensures .0)
 
 loop-again : tie.Need-loop-again Inv-loop μ-loop
-loop-again c = let a = c .before .before .before .before .before .before .before .before .before .before .before .before .before .before .before .before .before .before .before .before .before .before .before .before .before .before .before .before .before .before .args in
+loop-again c =
+    let a = entry (c .before .before .before .before .before .before .before .before .before .before .before .before .before .before .before .before .before) .args in
     let q = c .before .before .before .before .before .before .before .before .before .before .before .before .before .before .before .before .before .loop in
     let t = c .before .before .before .before .before .before .before .before .before .turn in
     let k = t .kept .1 .1 .1 in (
@@ -67,26 +75,31 @@ loop-again c = let a = c .before .before .before .before .before .before .before
       k .1 .1 .0 ∙ q .inv .4,
     )
 
+at-stage-requires : tie.Need-at-stage-requires Inv-loop μ-loop
+at-stage-requires c κs = tt
+
 cast-t30 : tie.Need-cast-t30 Inv-loop μ-loop
-cast-t30 c = let a = c .before .before .before .before .before .before .before .before .before .before .before .before .before .before .before .before .args in
-    let q = c .before .before .before .loop in
+cast-t30 c =
+    let a = entry (c .before .before .before .before) .args in
+    let q = c .before .before .before .before .loop in
     omega (arith, q .inv .0 .given .fewEdges, found-few limits (a .graph .«node_count») (a .graph .«edge_count») (a .offsets .now) (a .grouped .now) (a .dir-edges-src .now) (a .nodes-degree .now) (a .nodes-marked .now) (a .dir-edges-marked .now) (a .out .now) (q .nodes-degree) (q .nodes-marked) (q .dir-edges-marked) (q .stack) (q .out) (q .at) (q .inv .0))
 
 same-length : tie.Need-same-length Inv-loop μ-loop
-same-length c = omega arith
+same-length c = c .before .before .before .before .loop .inv .2
 
 same-length-2 : tie.Need-same-length-2 Inv-loop μ-loop
-same-length-2 c = omega arith
+same-length-2 c = c .before .before .before .before .loop .inv .3
 
 same-length-3 : tie.Need-same-length-3 Inv-loop μ-loop
-same-length-3 c = omega arith
+same-length-3 c = c .before .before .before .before .loop .inv .4
 
 same-length-4 : tie.Need-same-length-4 Inv-loop μ-loop
-same-length-4 c = omega arith
+same-length-4 c = c .before .before .before .before .loop .inv .0 .listSize
 
 returns : tie.Need-returns Inv-loop μ-loop
-returns c = let a = c .before .before .before .before .before .before .before .before .before .before .before .before .before .before .before .before .args in
-    let q = c .before .before .before .loop in
+returns c =
+    let a = entry (c .before .before .before .before) .args in
+    let q = c .before .before .before .before .loop in
     let z : q .at .stacked ≡ 0 = omega arith in
     let e = run-end limits (a .graph .«node_count») (a .graph .«edge_count») (a .offsets .now) (a .grouped .now) (a .dir-edges-src .now) (a .nodes-degree .now) (a .nodes-marked .now) (a .dir-edges-marked .now) (a .out .now)
     (q .nodes-degree) (q .nodes-marked) (q .dir-edges-marked) (q .stack) (q .out) (q .at) (q .inv .0) z in
@@ -97,9 +110,7 @@ returns c = let a = c .before .before .before .before .before .before .before .b
       listed = run-listed limits (a .graph .«node_count») (a .graph .«edge_count») (a .offsets .now) (a .grouped .now) (a .dir-edges-src .now) (a .nodes-degree .now) (a .nodes-marked .now) (a .dir-edges-marked .now) (a .out .now) (q .nodes-degree) (q .nodes-marked) (q .dir-edges-marked) (q .stack) (q .out) (q .at) (q .inv .0)
           ∙ ap (λ p. over (reverse (p .found)) (a .out .now)) e;
       count = sym (found-size limits (a .graph .«node_count») (a .graph .«edge_count») (a .offsets .now) (a .grouped .now) (a .dir-edges-src .now) (a .nodes-degree .now) (a .nodes-marked .now) (a .dir-edges-marked .now) (a .out .now) (q .nodes-degree) (q .nodes-marked) (q .dir-edges-marked) (q .stack) (q .out) (q .at) (q .inv .0)) ∙ ap (λ p. length (p .found)) e;
-      nodes = refl;
-      edges = refl;
-      stage = refl;
+      advanced = c .before .at-stage .ensures;
     }
 
 pub prune-core-spec : {M : Type 1} → statement M
@@ -115,6 +126,7 @@ prune-core-spec =
     turn-requires
     loop-less
     loop-again
+    at-stage-requires
     cast-t30
     same-length
     same-length-2

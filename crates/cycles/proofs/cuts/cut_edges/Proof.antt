@@ -8,7 +8,7 @@ use mathlib.Core.Bool.{true}
 use lib.ListN.{length, set, length-set}
 use Rattle.lists.specs.Lists.{over}
 use Rattle.rules.specs.Stages.{markEdges}
-use Rattle.cycles.specs.Cuts.{cutBy, cutsBy}
+use Rattle.cycles.specs.Cuts.{cutsBy}
 use Rattle.cycles.proofs.Cutting.{Passed, passed-yes, passed-no}
 use Rattle.cycles.proofs.cuts.cut_edges.Statement.{statement}
 use Rattle.cycles.proofs.cuts.cut_edges.Tie as tie
@@ -24,14 +24,15 @@ abbrev μ-loop : tie.MeasureT-loop
 loop-holds : tie.Need-loop-holds Inv-loop μ-loop
 loop-holds c = (omega arith, omega arith, refl, refl, record { number = refl; marked = refl; listed = refl })
 
-wide-requires : tie.Need-wide-requires Inv-loop μ-loop
-wide-requires c κs = search needs
+-- the function's start
+abbrev entry : tie.In-loop Inv-loop μ-loop → tie.Start Inv-loop μ-loop
+entry c = c .before .before .before .before .before
 
 is-cut-requires : tie.Need-is-cut-requires Inv-loop μ-loop
-is-cut-requires c κs =
-    let s = c .before .before .before .before .before .before .before in
-    let q = c .before .before .before .loop in
-    omega (arith, c .before .wide .ensures, s .pre .inLabels, s .pre .inMarks, q .inv .2)
+is-cut-requires c κs = let s = entry (c .before) in omega (arith, s .pre .inLabels, s .pre .inMarks, c .before .before .loop .inv .2)
+
+wide-requires : tie.Need-wide-requires Inv-loop μ-loop
+wide-requires c κs = search needs
 
 mul-dir-edges-marked : tie.Need-mul-dir-edges-marked Inv-loop μ-loop
 mul-dir-edges-marked c = omega arith
@@ -68,22 +69,19 @@ loop-less c = omega arith
 
 loop-again : tie.Need-loop-again Inv-loop μ-loop
 loop-again c =
-    let s = c .before .before .before .before .before .before .before .before .before in
-    let q = c .before .before .before .before .before .loop in
-    let i : c .before .before .before .wide .result ≡ q .k = c .before .before .before .wide .ensures in
-    let test : c .before .is-cut .result ≡ cutBy (q .dir-edges-marked) (s .args .labels .now) (q .k) =
-    c .before .is-cut .ensures ∙ ap (cutBy (q .dir-edges-marked) (s .args .labels .now)) i in
+    let s = entry (c .before .before .before) in
+    let q = c .before .before .before .before .loop in
     ⊎-elim
     (λ w.
     let m : c .if1 .dir-edges-marked ≡ set (set (q .dir-edges-marked) (2 * q .k) true) (2 * q .k + 1) true =
-    w .2 ∙ ap (λ z. set (set (q .dir-edges-marked) (2 * z) true) (2 * z + 1) true) i in
-    let o : c .if1 .out ≡ set (q .out) (q .count) (q .k) = w .3 ∙ ap (λ z. set (q .out) z (q .k)) (w .1 .ensures) in (
+    w .3 ∙ ap (λ z. set (set (q .dir-edges-marked) (2 * z) true) (2 * z + 1) true) (w .1 .ensures) in
+    let o : c .if1 .out ≡ set (q .out) (q .count) (q .k) = w .4 ∙ ap (λ z. set (q .out) z (q .k)) (w .2 .ensures) in (
       omega arith,
-      omega (arith, w .4),
+      omega (arith, w .5),
       ap length m ∙ simp length-set (q .inv .2),
       ap length o ∙ simp length-set (q .inv .3),
       passed-yes (s .args .labels .now) (s .args .dir-edges-marked .now) (s .args .out .now) (q .dir-edges-marked) (c .if1 .dir-edges-marked) (q .out) (c .if1 .out) (q .count) (c .if1 .count) (q .k)
-          (omega (arith, s .pre .inOut)) (sym test ∙ w .0 .taken) m o (w .4) (q .inv .4),
+          (omega (arith, s .pre .inOut)) (sym (c .before .is-cut .ensures) ∙ w .0 .taken) m o (w .5) (q .inv .4),
     ))
     (λ w. (
       omega arith,
@@ -91,7 +89,7 @@ loop-again c =
       ap length (w .1) ∙ q .inv .2,
       ap length (w .2) ∙ q .inv .3,
       passed-no (s .args .labels .now) (s .args .dir-edges-marked .now) (s .args .out .now) (q .dir-edges-marked) (c .if1 .dir-edges-marked) (q .out) (c .if1 .out) (q .count) (c .if1 .count) (q .k)
-          (sym test ∙ w .0 .left) (w .1) (w .2) (w .3) (q .inv .4),
+          (sym (c .before .is-cut .ensures) ∙ w .0 .left) (w .1) (w .2) (w .3) (q .inv .4),
     ))
     (c .if1 .came)
 
@@ -118,8 +116,8 @@ cut-edges-spec =
     Inv-loop
     μ-loop
     loop-holds
-    wide-requires
     is-cut-requires
+    wide-requires
     mul-dir-edges-marked
     slice-write-dir-edges-marked
     mul-dir-edges-marked-2

@@ -2,8 +2,11 @@
 use native.Mathlib.Omega.{arith}
 use mathlib.Core.Path.{sym, _∙_}
 use Rattle.rules.specs.State.{arrangementIn}
+use Rattle.rules.specs.Limits.{limits}
+use Rattle.rules.proofs.Naming.{all-zero}
+use Rattle.rules.proofs.Counting.{edge-count-is}
 use Rattle.pieces.proofs.Numbering.{count-each}
-use Rattle.cycles.proofs.Outcome.{zeros, edges-are, census-is}
+use Rattle.cycles.proofs.Outcome.{census-is}
 use borrow.Author.Needs.{needs}
 use Rattle.cycles.proofs.euler.count_census.Statement.{statement}
 use Rattle.cycles.proofs.euler.count_census.Tie as tie
@@ -20,7 +23,7 @@ slice-aggregate-number-pieces c = search needs
 number-pieces-requires : tie.Need-number-pieces-requires
 number-pieces-requires c κs =
     let p = c .before .before .before .before .before .before .before .before .before .pre in
-    record { spreads = p .0; placed = p .1; few = p .2; inPieces = p .2; short = omega arith; clear = λ n l. zeros 1024 n }
+    record { spreads = p .0; placed = p .1; few = p .2; inPieces = p .2; short = omega arith; clear = λ n l. all-zero (limits .nodes) n }
 
 euler-holds-requires : tie.Need-euler-holds-requires
 euler-holds-requires c κs = search needs
@@ -33,7 +36,7 @@ returns c =
     let g = arrangementIn (a .graph .«node_count») (a .graph .«edge_count») (a .dir-edges-src .now) (a .dir-edges-marked .now) star in
     census-is g (c .before .before .before .before .before .count-vertices .result) (c .before .before .before .before .count-edges .result) (a .cycles) (c .before .before .number-pieces .result) (c .euler-holds .result)
     (c .before .before .before .before .before .count-vertices .ensures (a .dir-edges-src .now) star gs sane)
-    (c .before .before .before .before .count-edges .ensures ∙ sym (edges-are g))
+    (c .before .before .before .before .count-edges .ensures ∙ sym (edge-count-is g))
     rings
     (count-each (a .graph) (a .nodes-x .now) (a .nodes-y .now) (a .dir-edges-src .now) (a .dir-edges-marked .now) (a .offsets .now) (a .grouped .now) _ (c .before .before .number-pieces .result) (c .before .before .number-pieces .ensures) star gs sane)
     (c .euler-holds .ensures)

@@ -9,7 +9,7 @@ use mathlib.Core.Bool.{Bool, true, false, not, _&&_}
 use lib.ListN.{length, getD}
 use Rattle.lists.specs.Lists.{below, bit}
 use Rattle.lists.proofs.Counts.{length-below}
-use Rattle.rules.proofs.Values.{both-true}
+use Rattle.lists.proofs.Tests.{both-true}
 use Rattle.stars.specs.Groups.{unmarked}
 use Rattle.lists.proofs.Entries.{getD-any}
 use Rattle.cycles.proofs.euler.count_edges.Statement.{statement}

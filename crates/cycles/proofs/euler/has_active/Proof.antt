@@ -21,11 +21,11 @@ abbrev μ-loop : tie.MeasureT-loop
 loop-holds : tie.Need-loop-holds Inv-loop μ-loop
 loop-holds c = (omega arith, c .before .before .pre .rises, refl)
 
-mul-is-active : tie.Need-mul-is-active Inv-loop μ-loop
-mul-is-active c = omega arith
+mul-t8 : tie.Need-mul-t8 Inv-loop μ-loop
+mul-t8 c = omega arith
 
-shared-slice-read-is-active : tie.Need-shared-slice-read-is-active Inv-loop μ-loop
-shared-slice-read-is-active c = omega arith
+shared-slice-read-t10 : tie.Need-shared-slice-read-t10 Inv-loop μ-loop
+shared-slice-read-t10 c = omega arith
 
 is-active-requires : tie.Need-is-active-requires Inv-loop μ-loop
 is-active-requires c κs =
@@ -74,8 +74,8 @@ has-active-spec =
     Inv-loop
     μ-loop
     loop-holds
-    mul-is-active
-    shared-slice-read-is-active
+    mul-t8
+    shared-slice-read-t10
     is-active-requires
     returns
     add-i

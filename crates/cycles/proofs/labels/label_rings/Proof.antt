@@ -1,113 +1,119 @@
 -- `cycles::labels::label_rings` meets its contract. The invariant: after k half-edges, what the procedure of the rules has after k.
 use Prim.Native.Nat.{_+_, _-_, _*_, _<_, _≤_}
 use native.Mathlib.Omega.{arith}
-use borrow.Author.Needs.{needs}
-use mathlib.Core.Path.{_≡_, refl, ap, _∙_}
+use mathlib.Core.Path.{_≡_, refl, sym, ap, _∙_}
 use mathlib.Core.Logic.{⊎-elim}
-use mathlib.Core.Bool.{true, false, not}
+use mathlib.Core.Bool.{true}
 use lib.ListN.{length, getD, replicate}
 use Rattle.lists.specs.Lists.{over}
 use Rattle.rules.specs.Cycles.{cycle}
 use Rattle.rules.specs.Sane.{Permutes}
 use Rattle.stars.specs.Groups.{unmarked}
 use Rattle.cycles.specs.Labels.{entryOf, written}
-use Rattle.lists.proofs.Entries.{getD-any}
 use Rattle.cycles.proofs.Labelling.{length-written, Held, held-first, held-new, held-marked, held-has, held-all}
 use Rattle.cycles.proofs.labels.label_rings.Statement.{statement}
 use Rattle.cycles.proofs.labels.label_rings.Tie as tie
 
 abbrev Inv-loop : tie.InvT-loop
-Inv-loop edges next dir-edges-marked labels₀ n used₀ k₀ labels used k =
-    (length labels ≡ length labels₀) × (k ≤ n) × (used ≤ k)
-    × ((t : Permutes (entryOf next) (2 * edges) (unmarked dir-edges-marked)) → Held edges next dir-edges-marked labels₀ t labels used k)
+Inv-loop edges next dir-edges-marked labels₀ halves used₀ h₀ labels used h =
+    (length labels ≡ length labels₀) × (h ≤ halves) × (used ≤ h)
+    × ((t : Permutes (entryOf next) (2 * edges) (unmarked dir-edges-marked)) → Held edges next dir-edges-marked labels₀ t labels used h)
 
 abbrev μ-loop : tie.MeasureT-loop
-μ-loop edges next dir-edges-marked labels₀ n used₀ k₀ labels used k = n - k
+μ-loop edges next dir-edges-marked labels₀ halves used₀ h₀ labels used h = halves - h
+
+mul-halves : tie.Need-mul-halves Inv-loop μ-loop
+mul-halves c = omega (arith, c .before .before .before .pre .few)
 
 wide-requires : tie.Need-wide-requires Inv-loop μ-loop
-wide-requires c κs = search needs
-
-mul-n : tie.Need-mul-n Inv-loop μ-loop
-mul-n c = omega arith
+wide-requires c κs = tt
 
 clear-labels-requires : tie.Need-clear-labels-requires Inv-loop μ-loop
-clear-labels-requires c κs = let s = c .before .before .before .before .before in omega (arith, c .before .wide .ensures, s .pre .inLabels)
+clear-labels-requires c κs = omega (arith, c .wide .ensures, c .before .before .before .before .before .pre .inLabels)
 
 loop-holds : tie.Need-loop-holds Inv-loop μ-loop
 loop-holds c =
-    let s = c .before .before .before .before .before .before .before .before in
+    let a = c .before .before .before .before .before .before .before .before .args in
     let m = c .before .before .clear-labels .last .0 in
-    let e : m ≡ over (replicate (2 * s .args .edges) 0) (s .args .labels .now) =
-    c .before .before .clear-labels .ensures ∙ ap (λ k. over (replicate (2 * k) 0) (s .args .labels .now)) (c .before .before .before .before .wide .ensures) in
-    (refl, omega arith, omega arith, λ t. held-first (s .args .edges) (s .args .next .now) (s .args .dir-edges-marked .now) m t (s .args .labels .now) e)
+    let e : m ≡ over (replicate (2 * a .edges) 0) (a .labels .now) = c .before .before .clear-labels .ensures ∙ ap (λ k. over (replicate k 0) (a .labels .now)) (c .before .before .before .wide .ensures) in
+    (refl, omega arith, omega arith, λ t. held-first (a .edges) (a .next .now) (a .dir-edges-marked .now) m t (a .labels .now) e)
 
-shared-slice-read-if1 : tie.Need-shared-slice-read-if1 Inv-loop μ-loop
-shared-slice-read-if1 c = omega arith
+-- the function's start
+abbrev entry : tie.In-loop Inv-loop μ-loop → tie.Start Inv-loop μ-loop
+entry c = c .before .before .before .before .before .before .before .before .before .before
+
+is-active-requires : tie.Need-is-active-requires Inv-loop μ-loop
+is-active-requires c κs = omega (arith, entry c .pre .inMarks)
+
+-- each half-edge has its label, and there are as many as at first
+room : (c : tie.In-loop Inv-loop μ-loop) → let q = c .before .loop in (2 * entry c .args .edges ≤ length (q .labels)) × (q .h < 2 * entry c .args .edges)
+room c = (omega (arith, c .before .loop .inv .0, c .before .before .before .before .clear-labels .kept .0, entry c .pre .inLabels), omega arith)
+
+wide-requires-2 : tie.Need-wide-requires-2 Inv-loop μ-loop
+wide-requires-2 c κs = tt
 
 mul-if2 : tie.Need-mul-if2 Inv-loop μ-loop
-mul-if2 c = omega arith
+mul-if2 c = omega (arith, c .wide2 .ensures, room (c .before .before .before))
 
 slice-read-if2 : tie.Need-slice-read-if2 Inv-loop μ-loop
-slice-read-if2 c = omega arith
+slice-read-if2 c = omega (arith, c .before .wide2 .ensures, room (c .before .before .before .before))
 
 add-used : tie.Need-add-used Inv-loop μ-loop
 add-used c = omega arith
 
 stamp-ring-requires : tie.Need-stamp-ring-requires Inv-loop μ-loop
 stamp-ring-requires c κs =
-    let s = c .before .before .before .before .before .before .before .before .before .before .before .before .before .before .before in
-    let q = c .before .before .before .before .before .before .loop in
-    let w : c .before .before .before .before .before .before .before .before .before .before .before .wide .result ≡ s .args .edges = c .before .before .before .before .before .before .before .before .before .before .before .wide .ensures in
-    let l : q .k < 2 * s .args .edges = omega arith in
-    let m = s .args .dir-edges-marked .now in
+    let k = c .before .before .before .before .before .before in
+    let s = entry k in
     record {
       count = 2 * s .args .edges;
-      active = unmarked m;
+      active = unmarked (s .args .dir-edges-marked .now);
       permutes = s .pre .permutes;
-      live = (l, ap not (getD-any m (q .k) true false (omega (arith, s .pre .inMarks))) ∙ c .before .before .before .if1 .taken);
+      live = (room k .1, sym (c .before .before .before .before .before .is-active .ensures) ∙ c .before .before .before .before .if1 .taken);
       inNext = s .pre .inNext;
-      inLabels = omega (arith, q .inv .0, c .before .before .before .before .before .before .before .before .before .clear-labels .kept .0, s .pre .inLabels);
+      inLabels = room k .0;
     }
 
-add-k : tie.Need-add-k Inv-loop μ-loop
-add-k c = omega arith
+add-h : tie.Need-add-h Inv-loop μ-loop
+add-h c = omega arith
 
 loop-less : tie.Need-loop-less Inv-loop μ-loop
 loop-less c = omega arith
 
 loop-again : tie.Need-loop-again Inv-loop μ-loop
 loop-again c =
-    let s = c .before .before .before .before .before .before .before .before .before .before .before .before in
-    let q = c .before .before .before .loop in
-    let w : c .before .before .before .before .before .before .before .before .wide .result ≡ s .args .edges = c .before .before .before .before .before .before .before .before .wide .ensures in
-    let l : q .k < 2 * s .args .edges = omega arith in
+    let k = c .before .before in
+    let s = entry k in
+    let q = k .before .loop in
+    let l = room k .1 in
     let e = s .args .edges in
     let n = s .args .next .now in
     let m = s .args .dir-edges-marked .now in
-    let old = c .before .before .before .before .before .before .clear-labels .last .0 in
-    let t₀ = s .pre .permutes in
-    let any : unmarked m (q .k) ≡ not (getD m (q .k) false) = ap not (getD-any m (q .k) true false (omega (arith, s .pre .inMarks))) in
+    let old = k .before .before .before .before .clear-labels .last .0 in
+    let test = sym (c .before .is-active .ensures) in
     ⊎-elim
     (λ v.
-    let a : unmarked m (q .k) ≡ true = any ∙ v .0 .taken in
-    let w : c .if1 .labels ≡ written (cycle (entryOf n) (2 * e) (q .k)) (q .used + 1) (q .labels) = v .7 ∙ v .4 .ensures (2 * e) (unmarked m) t₀ (l, a) in (
-      ap length w ∙ length-written (cycle (entryOf n) (2 * e) (q .k)) (q .used + 1) (q .labels) ∙ q .inv .0,
+    let a : unmarked m (q .h) ≡ true = test ∙ v .0 .taken in
+    let z : getD (q .labels) (q .h) 0 ≡ 0 = ap (λ i. getD (q .labels) i 0) (sym (v .1 .ensures)) ∙ v .3 .taken in
+    let w : c .if1 .labels ≡ written (cycle (entryOf n) (2 * e) (q .h)) (q .used + 1) (q .labels) = v .8 ∙ v .5 .ensures (2 * e) (unmarked m) (s .pre .permutes) (l, a) in (
+      ap length w ∙ length-written (cycle (entryOf n) (2 * e) (q .h)) (q .used + 1) (q .labels) ∙ q .inv .0,
       omega arith,
-      omega (arith, v .8),
-      λ t. held-new e n m old t (q .labels) (c .if1 .labels) (q .used) (c .if1 .used) (q .k) l a (v .2 .taken) w (v .8) (q .inv .3 t),
+      omega (arith, v .9),
+      λ t. held-new e n m old t (q .labels) (c .if1 .labels) (q .used) (c .if1 .used) (q .h) l a z w (v .9) (q .inv .3 t),
     ))
     (⊎-elim
-    (λ v. (
-      ap length (v .3) ∙ q .inv .0,
+    (λ v.
+    let d : getD (q .labels) (q .h) 0 ≡ 0 → ⊥ = λ z. v .3 .left (ap (λ i. getD (q .labels) i 0) (v .1 .ensures) ∙ z) in (
+      ap length (v .4) ∙ q .inv .0,
       omega arith,
-      omega (arith, v .4),
-      λ t. held-has e n m old t (q .labels) (c .if1 .labels) (q .used) (c .if1 .used) (q .k) l (any ∙ v .0 .taken) (v .2 .left) (v .3) (v .4) (q .inv .3 t),
+      omega (arith, v .5),
+      λ t. held-has e n m old t (q .labels) (c .if1 .labels) (q .used) (c .if1 .used) (q .h) l (test ∙ v .0 .taken) d (v .4) (v .5) (q .inv .3 t),
     ))
     (λ v. (
       ap length (v .1) ∙ q .inv .0,
       omega arith,
       omega (arith, v .2),
-      λ t. held-marked e n m old t (q .labels) (c .if1 .labels) (q .used) (c .if1 .used) (q .k) l (any ∙ v .0 .left) (v .1) (v .2) (q .inv .3 t),
+      λ t. held-marked e n m old t (q .labels) (c .if1 .labels) (q .used) (c .if1 .used) (q .h) l (test ∙ v .0 .left) (v .1) (v .2) (q .inv .3 t),
     )))
     (c .if1 .came)
 
@@ -118,27 +124,10 @@ returns : tie.Need-returns Inv-loop μ-loop
 returns c =
     let s = c .before .before .before .before .before .before .before .before .before .before in
     let q = c .before .loop in
-    let w : c .before .before .before .before .before .before .wide .result ≡ s .args .edges = c .before .before .before .before .before .before .wide .ensures in
-    let e : q .k ≡ 2 * s .args .edges = omega arith in
-    held-all (s .args .edges) (s .args .next .now) (s .args .dir-edges-marked .now) (c .before .before .before .before .clear-labels .last .0) (s .pre .permutes) (q .labels) (q .used) (q .k) e (q .inv .3 (s .pre .permutes))
+    let e : q .h ≡ 2 * s .args .edges = omega arith in
+    held-all (s .args .edges) (s .args .next .now) (s .args .dir-edges-marked .now) (c .before .before .before .before .clear-labels .last .0) (s .pre .permutes) (q .labels) (q .used) (q .h) e (q .inv .3 (s .pre .permutes))
 
 pub label-rings-spec : {M : Type 1} → statement M
 label-rings-spec =
     tie.close
-    (tie.spec
-    Inv-loop
-    μ-loop
-    wide-requires
-    mul-n
-    clear-labels-requires
-    loop-holds
-    shared-slice-read-if1
-    mul-if2
-    slice-read-if2
-    add-used
-    stamp-ring-requires
-    add-k
-    loop-less
-    loop-again
-    same-length
-    returns)
+    (tie.spec Inv-loop μ-loop mul-halves wide-requires clear-labels-requires loop-holds is-active-requires wide-requires-2 mul-if2 slice-read-if2 add-used stamp-ring-requires add-h loop-less loop-again same-length returns)

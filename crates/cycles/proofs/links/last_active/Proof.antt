@@ -13,7 +13,7 @@ use Rattle.cycles.proofs.links.last_active.Tie as tie
 abbrev Inv-loop : tie.InvT-loop
 Inv-loop grouped from to dir-edges-marked last₀ i₀ last i =
     (from ≤ i) × (i ≤ to)
-    × (lastOf last (pick (unmarked dir-edges-marked) (part i to grouped)) ≡ lastOf 0 (pick (unmarked dir-edges-marked) (part from to grouped)))
+    × (lastOf (last .0) (pick (unmarked dir-edges-marked) (part i to grouped)) ≡ lastOf 0 (pick (unmarked dir-edges-marked) (part from to grouped)))
 
 abbrev μ-loop : tie.MeasureT-loop
 μ-loop grouped from to dir-edges-marked last₀ i₀ last i = to - i
@@ -21,11 +21,11 @@ abbrev μ-loop : tie.MeasureT-loop
 loop-holds : tie.Need-loop-holds Inv-loop μ-loop
 loop-holds c = (omega arith, c .before .before .pre .rises, refl)
 
-mul-h : tie.Need-mul-h Inv-loop μ-loop
-mul-h c = omega arith
+mul-t9 : tie.Need-mul-t9 Inv-loop μ-loop
+mul-t9 c = omega arith
 
-shared-slice-read-h : tie.Need-shared-slice-read-h Inv-loop μ-loop
-shared-slice-read-h c = omega arith
+shared-slice-read-t11 : tie.Need-shared-slice-read-t11 Inv-loop μ-loop
+shared-slice-read-t11 c = omega arith
 
 is-active-requires : tie.Need-is-active-requires Inv-loop μ-loop
 is-active-requires c κs =
@@ -49,11 +49,11 @@ loop-again c =
       omega arith,
       omega arith,
       ⊎-elim
-          (λ w. ap (λ x. lastOf x (pick p (part (q .i + 1) (s .args .to) l))) (w .1)
-          ∙ sym (ap (lastOf (q .last)) (part-yes p (q .i) (s .args .to) l h (s .pre .ends) (sym (c .before .is-active .ensures) ∙ w .0 .taken)))
+          (λ w. ap (λ x. lastOf (x .0) (pick p (part (q .i + 1) (s .args .to) l))) (w .1)
+          ∙ sym (ap (lastOf (q .last .0)) (part-yes p (q .i) (s .args .to) l h (s .pre .ends) (sym (c .before .is-active .ensures) ∙ w .0 .taken)))
           ∙ q .inv .2)
-          (λ w. ap (λ x. lastOf x (pick p (part (q .i + 1) (s .args .to) l))) (w .1)
-          ∙ sym (ap (lastOf (q .last)) (part-no p (q .i) (s .args .to) l h (s .pre .ends) (sym (c .before .is-active .ensures) ∙ w .0 .left)))
+          (λ w. ap (λ x. lastOf (x .0) (pick p (part (q .i + 1) (s .args .to) l))) (w .1)
+          ∙ sym (ap (lastOf (q .last .0)) (part-no p (q .i) (s .args .to) l h (s .pre .ends) (sym (c .before .is-active .ensures) ∙ w .0 .left)))
           ∙ q .inv .2)
           (c .if1 .came),
     )
@@ -63,7 +63,7 @@ returns c =
     let s = c .before .before .before .before in
     let q = c .before .loop in
     let p : ℕ → Bool = unmarked (s .args .dir-edges-marked .now) in
-    sym (ap (λ r. lastOf (q .last) (pick p r)) (part-end (q .i) (s .args .to) (s .args .grouped .now) (omega arith))) ∙ q .inv .2
+    sym (ap (λ r. lastOf (q .last .0) (pick p r)) (part-end (q .i) (s .args .to) (s .args .grouped .now) (omega arith))) ∙ q .inv .2
 
 pub last-active-spec : {M : Type 1} → statement M
 last-active-spec =
@@ -72,8 +72,8 @@ last-active-spec =
     Inv-loop
     μ-loop
     loop-holds
-    mul-h
-    shared-slice-read-h
+    mul-t9
+    shared-slice-read-t11
     is-active-requires
     add-i
     loop-less

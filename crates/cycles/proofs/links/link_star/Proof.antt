@@ -18,7 +18,7 @@ use Rattle.cycles.proofs.links.link_star.Tie as tie
 abbrev Inv-loop : tie.InvT-loop
 Inv-loop grouped from to dir-edges-marked next₀ previous₀ i₀ next previous i =
     (from ≤ i) × (i ≤ to) × (length next ≡ length next₀)
-    × (linkFrom previous (pick (unmarked dir-edges-marked) (part i to grouped)) next ≡ linkStar (unmarked dir-edges-marked) (part from to grouped) next₀)
+    × (linkFrom (previous .0) (pick (unmarked dir-edges-marked) (part i to grouped)) next ≡ linkStar (unmarked dir-edges-marked) (part from to grouped) next₀)
 
 abbrev μ-loop : tie.MeasureT-loop
 μ-loop grouped from to dir-edges-marked next₀ previous₀ i₀ next previous i = to - i
@@ -33,11 +33,11 @@ loop-holds c =
     let r = pick p (part (s .args .from) (s .args .to) (s .args .grouped .now)) in
     (omega arith, s .pre .0 .rises, refl, ap (λ x. linkFrom x r (s .args .next .now)) (c .last-active .ensures))
 
-mul-h : tie.Need-mul-h Inv-loop μ-loop
-mul-h c = omega arith
+mul-t10 : tie.Need-mul-t10 Inv-loop μ-loop
+mul-t10 c = omega arith
 
-shared-slice-read-h : tie.Need-shared-slice-read-h Inv-loop μ-loop
-shared-slice-read-h c = omega arith
+shared-slice-read-t12 : tie.Need-shared-slice-read-t12 Inv-loop μ-loop
+shared-slice-read-t12 c = omega arith
 
 is-active-requires : tie.Need-is-active-requires Inv-loop μ-loop
 is-active-requires c κs =
@@ -80,19 +80,19 @@ loop-again c =
     ⊎-elim
     (λ w.
     let x : ℕ = getD l (q .i) 0 in
-    let e : c .if1 .next ≡ set (q .next) (twin x) (q .previous) = w .3 ∙ ap (λ z. set (q .next) z (q .previous)) (w .2 .ensures ∙ w .1 .ensures) in (
+    let e : c .if1 .next ≡ set (q .next) (twin x) (q .previous .0) = w .3 ∙ ap (λ z. set (q .next) z (q .previous .0)) (w .2 .ensures ∙ w .1 .ensures) in (
       omega arith,
       omega arith,
-      ap length e ∙ length-set (q .next) (twin x) (q .previous) ∙ q .inv .2,
-      ap (λ z. linkFrom (c .if1 .previous) r z) e ∙ ap (λ z. linkFrom z r (set (q .next) (twin x) (q .previous))) (w .4)
-          ∙ link-yes p (q .i) (s .args .to) l h (s .pre .0 .ends) (q .previous) (q .next) (sym (c .before .is-active .ensures) ∙ w .0 .taken) ∙ q .inv .3,
+      ap length e ∙ length-set (q .next) (twin x) (q .previous .0) ∙ q .inv .2,
+      ap (λ z. linkFrom (c .if1 .previous .0) r z) e ∙ ap (λ z. linkFrom (z .0) r (set (q .next) (twin x) (q .previous .0))) (w .4)
+          ∙ link-yes p (q .i) (s .args .to) l h (s .pre .0 .ends) (q .previous .0) (q .next) (sym (c .before .is-active .ensures) ∙ w .0 .taken) ∙ q .inv .3,
     ))
     (λ w. (
       omega arith,
       omega arith,
       ap length (w .1) ∙ q .inv .2,
-      ap (λ x. linkFrom (c .if1 .previous) r x) (w .1) ∙ ap (λ x. linkFrom x r (q .next)) (w .2)
-          ∙ link-no p (q .i) (s .args .to) l h (s .pre .0 .ends) (q .previous) (q .next) (sym (c .before .is-active .ensures) ∙ w .0 .left) ∙ q .inv .3,
+      ap (λ x. linkFrom (c .if1 .previous .0) r x) (w .1) ∙ ap (λ x. linkFrom (x .0) r (q .next)) (w .2)
+          ∙ link-no p (q .i) (s .args .to) l h (s .pre .0 .ends) (q .previous .0) (q .next) (sym (c .before .is-active .ensures) ∙ w .0 .left) ∙ q .inv .3,
     ))
     (c .if1 .came)
 
@@ -104,7 +104,7 @@ returns c =
     let s = c .before .before .before .before .before .before in
     let q = c .before .loop in
     let p : ℕ → Bool = unmarked (s .args .dir-edges-marked .now) in
-    sym (ap (λ r. linkFrom (q .previous) (pick p r) (q .next)) (part-end (q .i) (s .args .to) (s .args .grouped .now) (omega arith))) ∙ q .inv .3
+    sym (ap (λ r. linkFrom (q .previous .0) (pick p r) (q .next)) (part-end (q .i) (s .args .to) (s .args .grouped .now) (omega arith))) ∙ q .inv .3
 
 pub link-star-spec : {M : Type 1} → statement M
 link-star-spec =
@@ -114,8 +114,8 @@ link-star-spec =
     μ-loop
     last-active-requires
     loop-holds
-    mul-h
-    shared-slice-read-h
+    mul-t10
+    shared-slice-read-t12
     is-active-requires
     twin-of-requires
     wide-requires

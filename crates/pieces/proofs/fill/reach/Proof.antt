@@ -29,13 +29,20 @@ slice-write-pieces c = search needs
 mul-stack : tie.Need-mul-stack
 mul-stack c = search needs
 
+-- the function's start
+abbrev entry : tie.After-wide → tie.Start
+entry c = c .before .before .before
+
+-- the node has no number
+none : (c : tie.Then1) → let a = entry (c .before .before) .args in getD (a .pieces .now) (a .node .0) 0 ≡ 0
+none c = ap (λ k. getD (entry (c .before .before) .args .pieces .now) k 0) (sym (c .before .before .wide .ensures)) ∙ c .if1 .taken
+
+-- the stack has room for it
+room : (c : tie.Then1) → let a = entry (c .before .before) .args in a .top < length (a .stack .now)
+room c = let s = entry (c .before .before) in omega (arith, ap length (new-none (s .args .piece) (s .args .node .0) [] (s .args .pieces .now) (none c)), s .pre .1)
+
 slice-write-stack : tie.Need-slice-write-stack
-slice-write-stack c =
-    let s = c .before .before .before .before .before in
-    let p = s .args .pieces .now in
-    let i : c .before .before .wide .result ≡ s .args .n = c .before .before .wide .ensures in
-    let z : getD p (s .args .n) 0 ≡ 0 = ap (λ k. getD p k 0) (sym i) ∙ c .if1 .taken in
-    omega (arith, ap length (new-none (s .args .piece) (s .args .n) [] p z), s .pre .1)
+slice-write-stack c = room c
 
 add-result : tie.Need-add-result
 add-result c = search needs
@@ -48,20 +55,16 @@ same-length-2 c = search needs
 
 returns : tie.Need-returns
 returns c =
-    let s = c .before .before .before .before .before in
-    let p = s .args .pieces .now in
-    let i : c .before .before .wide .result ≡ s .args .n = c .before .before .wide .ensures in
-    let z : getD p (s .args .n) 0 ≡ 0 = ap (λ k. getD p k 0) (sym i) ∙ c .if1 .taken in
-    let l : s .args .top < length (s .args .stack .now) = omega (arith, ap length (new-none (s .args .piece) (s .args .n) [] p z), s .pre .1) in
-    subst (λ k. Reached (s .args .piece) (s .args .n ∷ []) p (s .args .stack .now) (set p k (s .args .piece)) (set (s .args .stack .now) (s .args .top) (s .args .n)) (s .args .top) (s .args .top + 1)) (sym i)
-    (reached-none (s .args .piece) (s .args .n) (s .args .top) p (s .args .stack .now) z l)
+    let a = entry (c .before .before) .args in
+    let n = a .node .0 in
+    let p = a .pieces .now in
+    let t = a .stack .now in
+    subst (λ k. Reached (a .piece) (n ∷ []) p t (set p k (a .piece)) (set t (a .top) n) (a .top) (a .top + 1)) (sym (c .before .before .wide .ensures)) (reached-none (a .piece) n (a .top) p t (none c) (room c))
 
 returns-2 : tie.Need-returns-2
 returns-2 c =
-    let s = c .before .before .before .before .before in
-    let p = s .args .pieces .now in
-    let i : c .before .before .wide .result ≡ s .args .n = c .before .before .wide .ensures in
-    reached-has (s .args .piece) (s .args .n) (s .args .top) p (s .args .stack .now) (λ z. c .if1 .left (ap (λ k. getD p k 0) i ∙ z))
+    let a = entry (c .before .before) .args in
+    reached-has (a .piece) (a .node .0) (a .top) (a .pieces .now) (a .stack .now) (λ z. c .if1 .left (ap (λ k. getD (a .pieces .now) k 0) (c .before .before .wide .ensures) ∙ z))
 
 pub reach-spec : {M : Type 1} → statement M
 reach-spec =

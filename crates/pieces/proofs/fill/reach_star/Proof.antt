@@ -1,13 +1,14 @@
 -- `pieces::fill::reach_star` meets its contract. The invariant: reaching the ends that are left gives what reaching all gives.
 use Prim.Native.Nat.{ℕ, _+_, _-_, _<_, _≤_}
 use native.Mathlib.Omega.{arith}
-use borrow.Author.Needs.{needs}
 use mathlib.Core.Path.{_≡_, refl, sym, ap, ap₂, _∙_, subst}
 use mathlib.Core.Logic.{⊎-elim}
-use mathlib.Core.List.{[], _∷_, _++_}
+use mathlib.Core.Bool.{true, false}
+use mathlib.Core.List.{List, [], _∷_, _++_}
 use lib.ListN.{length, getD, take}
 use Rattle.rules.specs.HalfEdge.{twin}
-use Rattle.stars.specs.Groups.{part}
+use Rattle.lists.specs.Lists.{In}
+use Rattle.stars.specs.Groups.{unmarked, part}
 use Rattle.pieces.specs.Reach.{reachAll, reachNew, endsOf, Reached}
 use Rattle.stars.proofs.Groups.{part-end, part-in}
 use Rattle.pieces.proofs.Spreading.{Left, left-room, left-one, left-end, ends-yes, ends-no}
@@ -22,55 +23,71 @@ Inv-loop grouped from to dir-edges-src dir-edges-marked piece pieces₀ stack₀
 abbrev μ-loop : tie.MeasureT-loop
 μ-loop grouped from to dir-edges-src dir-edges-marked piece pieces₀ stack₀ top height₀ i₀ pieces stack height i = to - i
 
+-- the ends from a place on
+abbrev ends : tie.Start Inv-loop μ-loop → ℕ → List ℕ
+ends s i = endsOf (s .args .dir-edges-src .now) (s .args .dir-edges-marked .now) (part i (s .args .to) (s .args .grouped .now))
+
+-- what is left where these ends are still to be reached
+abbrev LeftOf : tie.Start Inv-loop μ-loop → List ℕ → List ℕ → List ℕ → ℕ → Type 0
+LeftOf s r pieces stack height = Left (s .args .piece) (ends s (s .args .from)) (s .args .pieces .now) (s .args .stack .now) (s .args .top) r pieces stack height
+
+-- the half-edge at a place, and where it ends
+abbrev half : tie.Start Inv-loop μ-loop → ℕ → ℕ
+half s i = getD (s .args .grouped .now) i 0
+
+abbrev end : tie.Start Inv-loop μ-loop → ℕ → ℕ
+end s i = getD (s .args .dir-edges-src .now) (twin (half s i)) 0
+
+-- it stands in the part
+inside : (s : tie.Start Inv-loop μ-loop) (i : ℕ) → s .args .from ≤ i → i < s .args .to → In (half s i) (part (s .args .from) (s .args .to) (s .args .grouped .now))
+inside s i a b = part-in (s .args .from) (s .args .to) i (s .args .grouped .now) a b (s .pre .0 .ends)
+
 loop-holds : tie.Need-loop-holds Inv-loop μ-loop
 loop-holds c = (omega arith, c .before .before .before .before .before .pre .0 .rises, refl, refl, record { numbers = refl; pushed = refl; heights = refl })
 
-mul-h : tie.Need-mul-h Inv-loop μ-loop
-mul-h c = omega arith
+mul-t15 : tie.Need-mul-t15 Inv-loop μ-loop
+mul-t15 c = omega arith
 
-shared-slice-read-h : tie.Need-shared-slice-read-h Inv-loop μ-loop
-shared-slice-read-h c = omega arith
+shared-slice-read-t17 : tie.Need-shared-slice-read-t17 Inv-loop μ-loop
+shared-slice-read-t17 c = omega arith
+
+-- the function's start
+abbrev entry : tie.In-loop Inv-loop μ-loop → tie.Start Inv-loop μ-loop
+entry c = c .before .before .before .before .before .before .before
 
 is-active-requires : tie.Need-is-active-requires Inv-loop μ-loop
-is-active-requires c κs =
-    let s = c .before .before .before .before .before .before .before .before in
-    let q = c .before .before .loop in
-    s .pre .0 .low _ (part-in (s .args .from) (s .args .to) (q .i) (s .args .grouped .now) (omega arith) (omega arith) (s .pre .0 .ends))
+is-active-requires c κs = let s = entry (c .before) in s .pre .0 .low _ (inside s (c .before .before .loop .i) (omega arith) (omega arith))
 
-twin-of-requires : tie.Need-twin-of-requires Inv-loop μ-loop
-twin-of-requires c κs = search needs
+end-of-requires : tie.Need-end-of-requires Inv-loop μ-loop
+end-of-requires c κs = let s = entry (c .before .before .before) in s .pre .1 _ (inside s (c .before .before .before .before .loop .i) (omega arith) (omega arith)) .0
 
-wide-requires : tie.Need-wide-requires Inv-loop μ-loop
-wide-requires c κs = search needs
+-- of an active half-edge the end is the first of those left
+left-yes : (c : tie.In-loop Inv-loop μ-loop) → unmarked (entry c .args .dir-edges-marked .now) (half (entry c) (c .before .loop .i)) ≡ true
+    → let q = c .before .loop in LeftOf (entry c) (end (entry c) (q .i) ∷ ends (entry c) (q .i + 1)) (q .pieces) (q .stack) (q .height)
+left-yes c e =
+    let s = entry c in
+    let q = c .before .loop in
+    subst (λ r. LeftOf s r (q .pieces) (q .stack) (q .height)) (ends-yes (s .args .dir-edges-src .now) (s .args .dir-edges-marked .now) (q .i) (s .args .to) (s .args .grouped .now) (omega arith) (s .pre .0 .ends) e) (q .inv .4)
 
-mul-n : tie.Need-mul-n Inv-loop μ-loop
-mul-n c = omega arith
-
-shared-slice-read-n : tie.Need-shared-slice-read-n Inv-loop μ-loop
-shared-slice-read-n c =
-    let s = c .before .before .before .before .before .before .before .before .before .before .before .before .before in
-    let q = c .before .before .before .before .before .before .before .loop in
-    let low = s .pre .1 _ (part-in (s .args .from) (s .args .to) (q .i) (s .args .grouped .now) (omega arith) (omega arith) (s .pre .0 .ends)) in
-    omega (arith, c .before .wide .ensures, c .before .before .twin-of .ensures, low .0)
+-- one that is not has none
+left-no : (c : tie.In-loop Inv-loop μ-loop) → unmarked (entry c .args .dir-edges-marked .now) (half (entry c) (c .before .loop .i)) ≡ false
+    → let q = c .before .loop in LeftOf (entry c) (ends (entry c) (q .i + 1)) (q .pieces) (q .stack) (q .height)
+left-no c e =
+    let s = entry c in
+    let q = c .before .loop in
+    subst (λ r. LeftOf s r (q .pieces) (q .stack) (q .height)) (ends-no (s .args .dir-edges-src .now) (s .args .dir-edges-marked .now) (q .i) (s .args .to) (s .args .grouped .now) (omega arith) (s .pre .0 .ends) e) (q .inv .4)
 
 reach-requires : tie.Need-reach-requires Inv-loop μ-loop
 reach-requires c κs =
-    let s = c .before .before .before .before .before .before .before .before .before .before .before .before .before .before .before in
-    let q = c .before .before .before .before .before .before .before .before .before .loop in
-    let l = s .args .grouped .now in
-    let src = s .args .dir-edges-src .now in
-    let marks = s .args .dir-edges-marked .now in
-    let x : ℕ = getD l (q .i) 0 in
-    let h : q .i < s .args .to = omega arith in
-    let all = endsOf src marks (part (s .args .from) (s .args .to) l) in
-    let e : getD src (c .before .before .before .wide .result) 0 ≡ getD src (twin x) 0 = ap (λ k. getD src k 0) (c .before .before .before .wide .ensures ∙ c .before .before .before .before .twin-of .ensures) in
-    let low = s .pre .1 _ (part-in (s .args .from) (s .args .to) (q .i) (s .args .grouped .now) (omega arith) (omega arith) (s .pre .0 .ends)) in
-    let left : Left (s .args .piece) all (s .args .pieces .now) (s .args .stack .now) (s .args .top) (getD src (twin x) 0 ∷ endsOf src marks (part (q .i + 1) (s .args .to) l)) (q .pieces) (q .stack) (q .height) =
-    subst (λ r. Left (s .args .piece) all (s .args .pieces .now) (s .args .stack .now) (s .args .top) r (q .pieces) (q .stack) (q .height))
-    (ends-yes src marks (q .i) (s .args .to) l h (s .pre .0 .ends) (sym (c .before .before .before .before .before .before .is-active .ensures) ∙ c .before .before .before .before .before .if1 .taken)) (q .inv .4) in
-    subst (λ n. (n < length (q .pieces)) × (q .height + length (reachNew (s .args .piece) (n ∷ []) (q .pieces)) ≤ length (q .stack))) (sym e) (
+    let k = c .before .before .before .before .before .before in
+    let s = entry k in
+    let a = s .args in
+    let q = k .before .loop in
+    let left = left-yes k (sym (c .before .before .before .before .is-active .ensures) ∙ c .before .before .before .if1 .taken) in
+    let low = s .pre .1 _ (inside s (q .i) (omega arith) (omega arith)) in
+    subst (λ n. (n < length (q .pieces)) × (q .height + length (reachNew (a .piece) (n ∷ []) (q .pieces)) ≤ length (q .stack))) (sym (c .before .before .end-of .ensures)) (
       omega (arith, q .inv .2, low .1),
-      left-room (s .args .piece) all (s .args .pieces .now) (s .args .stack .now) (s .args .top) (getD src (twin x) 0) (endsOf src marks (part (q .i + 1) (s .args .to) l)) (q .pieces) (q .stack) (q .height) (length (q .stack)) left
+      left-room (a .piece) (ends s (a .from)) (a .pieces .now) (a .stack .now) (a .top) (end s (q .i)) (ends s (q .i + 1)) (q .pieces) (q .stack) (q .height) (length (q .stack)) left
           (omega (arith, s .pre .2, q .inv .3)),
     )
 
@@ -82,45 +99,37 @@ loop-less c = omega arith
 
 loop-again : tie.Need-loop-again Inv-loop μ-loop
 loop-again c =
-    let s = c .before .before .before .before .before .before .before .before .before .before in
-    let q = c .before .before .before .before .loop in
-    let l = s .args .grouped .now in
-    let src = s .args .dir-edges-src .now in
-    let marks = s .args .dir-edges-marked .now in
-    let x : ℕ = getD l (q .i) 0 in
-    let h : q .i < s .args .to = omega arith in
-    let all = endsOf src marks (part (s .args .from) (s .args .to) l) in
-    let left = endsOf src marks (part (q .i + 1) (s .args .to) l) in
+    let k = c .before .before .before in
+    let s = entry k in
+    let a = s .args in
+    let q = k .before .loop in
+    let left = ends s (q .i + 1) in
     ⊎-elim
     (λ w.
-    let e : getD src (w .2 .result) 0 ≡ getD src (twin x) 0 = ap (λ k. getD src k 0) (w .2 .ensures ∙ w .1 .ensures) in
-    let r : Reached (s .args .piece) (getD src (twin x) 0 ∷ []) (q .pieces) (q .stack) (c .if1 .pieces) (c .if1 .stack) (q .height) (c .if1 .height) =
-    subst (λ n. Reached (s .args .piece) (n ∷ []) (q .pieces) (q .stack) (c .if1 .pieces) (c .if1 .stack) (q .height) (c .if1 .height)) e
+    let r : Reached (a .piece) (end s (q .i) ∷ []) (q .pieces) (q .stack) (c .if1 .pieces) (c .if1 .stack) (q .height) (c .if1 .height) =
+    subst (λ n. Reached (a .piece) (n ∷ []) (q .pieces) (q .stack) (c .if1 .pieces) (c .if1 .stack) (q .height) (c .if1 .height)) (w .1 .ensures)
     (record {
-      numbers = w .11 ∙ w .6 .ensures .numbers;
-      pushed = ap₂ take (w .13) (w .12) ∙ w .6 .ensures .pushed;
-      height = w .13 ∙ w .6 .ensures .height;
+      numbers = w .9 ∙ w .4 .ensures .numbers;
+      pushed = ap₂ take (w .11) (w .10) ∙ w .4 .ensures .pushed;
+      height = w .11 ∙ w .4 .ensures .height;
     }) in (
       omega arith,
       omega arith,
-      ap length (w .11) ∙ w .6 .kept .1 .1 .0 ∙ q .inv .2,
-      ap length (w .12) ∙ w .6 .kept .1 .1 .1 .0 ∙ q .inv .3,
-      left-one (s .args .piece) all (s .args .pieces .now) (s .args .stack .now) (s .args .top) (getD src (twin x) 0) left (q .pieces) (q .stack) (c .if1 .pieces) (c .if1 .stack) (q .height) (c .if1 .height) r
-          (subst (λ z. Left (s .args .piece) all (s .args .pieces .now) (s .args .stack .now) (s .args .top) z (q .pieces) (q .stack) (q .height))
-          (ends-yes src marks (q .i) (s .args .to) l h (s .pre .0 .ends) (sym (c .before .is-active .ensures) ∙ w .0 .taken)) (q .inv .4)),
+      ap length (w .9) ∙ w .4 .kept .1 .1 .0 ∙ q .inv .2,
+      ap length (w .10) ∙ w .4 .kept .1 .1 .1 .0 ∙ q .inv .3,
+      left-one (a .piece) (ends s (a .from)) (a .pieces .now) (a .stack .now) (a .top) (end s (q .i)) left (q .pieces) (q .stack) (c .if1 .pieces) (c .if1 .stack) (q .height) (c .if1 .height) r
+          (left-yes k (sym (c .before .is-active .ensures) ∙ w .0 .taken)),
     ))
     (λ w.
-    let k : Left (s .args .piece) all (s .args .pieces .now) (s .args .stack .now) (s .args .top) left (q .pieces) (q .stack) (q .height) =
-    subst (λ z. Left (s .args .piece) all (s .args .pieces .now) (s .args .stack .now) (s .args .top) z (q .pieces) (q .stack) (q .height))
-    (ends-no src marks (q .i) (s .args .to) l h (s .pre .0 .ends) (sym (c .before .is-active .ensures) ∙ w .0 .left)) (q .inv .4) in (
+    let l = left-no k (sym (c .before .is-active .ensures) ∙ w .0 .left) in (
       omega arith,
       omega arith,
       ap length (w .1) ∙ q .inv .2,
       ap length (w .2) ∙ q .inv .3,
       record {
-        numbers = ap (reachAll (s .args .piece) left) (w .1) ∙ k .numbers;
-        pushed = (λ i. take (w .3 i) (w .2 i) ++ reachNew (s .args .piece) left (w .1 i)) ∙ k .pushed;
-        heights = ap₂ (λ a b. a + length (reachNew (s .args .piece) left b)) (w .3) (w .1) ∙ k .heights;
+        numbers = ap (reachAll (a .piece) left) (w .1) ∙ l .numbers;
+        pushed = (λ i. take (w .3 i) (w .2 i) ++ reachNew (a .piece) left (w .1 i)) ∙ l .pushed;
+        heights = ap₂ (λ x y. x + length (reachNew (a .piece) left y)) (w .3) (w .1) ∙ l .heights;
       },
     ))
     (c .if1 .came)
@@ -134,14 +143,10 @@ same-length-2 c = c .before .loop .inv .3
 returns : tie.Need-returns Inv-loop μ-loop
 returns c =
     let s = c .before .before .before .before .before .before .before in
+    let a = s .args in
     let q = c .before .loop in
-    let l = s .args .grouped .now in
-    let src = s .args .dir-edges-src .now in
-    let marks = s .args .dir-edges-marked .now in
-    let all = endsOf src marks (part (s .args .from) (s .args .to) l) in
-    left-end (s .args .piece) all (s .args .pieces .now) (s .args .stack .now) (s .args .top) (q .pieces) (q .stack) (q .height)
-    (subst (λ r. Left (s .args .piece) all (s .args .pieces .now) (s .args .stack .now) (s .args .top) (endsOf src marks r) (q .pieces) (q .stack) (q .height))
-    (part-end (q .i) (s .args .to) l (omega arith)) (q .inv .4))
+    left-end (a .piece) (ends s (a .from)) (a .pieces .now) (a .stack .now) (a .top) (q .pieces) (q .stack) (q .height)
+    (subst (λ r. LeftOf s (endsOf (a .dir-edges-src .now) (a .dir-edges-marked .now) r) (q .pieces) (q .stack) (q .height)) (part-end (q .i) (a .to) (a .grouped .now) (omega arith)) (q .inv .4))
 
 pub reach-star-spec : {M : Type 1} → statement M
 reach-star-spec =
@@ -150,13 +155,10 @@ reach-star-spec =
     Inv-loop
     μ-loop
     loop-holds
-    mul-h
-    shared-slice-read-h
+    mul-t15
+    shared-slice-read-t17
     is-active-requires
-    twin-of-requires
-    wide-requires
-    mul-n
-    shared-slice-read-n
+    end-of-requires
     reach-requires
     add-i
     loop-less

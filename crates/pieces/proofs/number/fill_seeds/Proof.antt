@@ -32,17 +32,17 @@ loop-holds c =
     let s = c .before .before .before .before .before .before .before in
     (omega arith, omega arith, refl, refl, far-first (s .args .dir-edges-src .now) (s .args .dir-edges-marked .now) (s .args .offsets .now) (s .args .grouped .now) (row s) (s .args .pieces .now))
 
-mul-k : tie.Need-mul-k Inv-loop μ-loop
-mul-k c = omega (arith, c .before .before .before .before .before .before .before .before .before .pre .inOrder)
+mul-if1 : tie.Need-mul-if1 Inv-loop μ-loop
+mul-if1 c = omega (arith, c .before .before .before .before .before .before .before .before .before .pre .inOrder)
 
-shared-slice-read-k : tie.Need-shared-slice-read-k Inv-loop μ-loop
-shared-slice-read-k c = omega (arith, c .before .before .before .before .before .before .before .before .before .before .pre .inOrder)
+shared-slice-read-if1 : tie.Need-shared-slice-read-if1 Inv-loop μ-loop
+shared-slice-read-if1 c = omega (arith, c .before .before .before .before .before .before .before .before .before .before .pre .inOrder)
 
 wide-requires : tie.Need-wide-requires Inv-loop μ-loop
 wide-requires c κs = search needs
 
-mul-if1 : tie.Need-mul-if1 Inv-loop μ-loop
-mul-if1 c =
+mul-if1-2 : tie.Need-mul-if1-2 Inv-loop μ-loop
+mul-if1-2 c =
     let s = c .before .before .before .before .before .before .before .before .before .before .before in
     let q = c .before .before .before .loop in
     omega (arith, c .wide .ensures, s .pre .low (q .i) (omega arith), s .pre .inPieces, q .inv .2)
@@ -131,10 +131,10 @@ fill-seeds-spec =
     Inv-loop
     μ-loop
     loop-holds
-    mul-k
-    shared-slice-read-k
-    wide-requires
     mul-if1
+    shared-slice-read-if1
+    wide-requires
+    mul-if1-2
     slice-read-if1
     add-count
     fill-piece-requires

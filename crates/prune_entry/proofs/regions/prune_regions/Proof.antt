@@ -197,9 +197,7 @@ returns c =
         halfMark = front-behind (limits .nodes) (between r) row′ (between-room r) kept ∙ tail-inside (limits .nodes) marks halves′ (markRoom k) ∙ e .halfMark;
         listed = e .listed;
         count = e .count;
-        nodes = e .nodes;
-        edges = e .edges;
-        stage = e .stage;
+        advanced = e .advanced;
       },
       tail-before (2 * limits .edges) stars degrees′ (starRoom k),
     )

@@ -1,7 +1,7 @@
 -- `reset_regions` meets its contract: the degrees are the back of their slice, and the two kinds of marks the front and the back of theirs.
 use Prim.Native.Nat.{ℕ, _*_, _-_, _≤_}
 use native.Mathlib.Omega.{arith}
-use mathlib.Core.Path.{_≡_, refl, ap, ap₂, _∙_}
+use mathlib.Core.Path.{_≡_, ap, ap₂, _∙_}
 use mathlib.Core.Bool.{Bool, false}
 use mathlib.Core.List.{List, map}
 use lib.ListN.{length, take, replicate}
@@ -82,9 +82,12 @@ clear-marks-requires-2 c κs = search needs
 abbrev start : tie.After-write-degrees → tie.Start
 start c = entry (c .before .before .before .before .before)
 
+at-stage-requires : tie.Need-at-stage-requires
+at-stage-requires c κs = tt
+
 same-length : tie.Need-same-length
 same-length c =
-    let d = c .before .before .before .before .before .before .before .before .before .before in
+    let d = c .before .before .before .before .before .before .before .before .before .before .before in
     let stars = start d .args .stars .now in
     same-len-mid (2 * limits .edges) (length stars - 2 * limits .edges) stars (d .write-degrees .last .1 .1 .0) (d .write-degrees .kept .1 .1 .0)
 
@@ -94,7 +97,7 @@ between c = putMid 0 (limits .nodes) (start (c .before .before .before .before) 
 
 same-length-2 : tie.Need-same-length-2
 same-length-2 c =
-    let halves = c .before .before in
+    let halves = c .before .before .before in
     let nodes = halves .before .before .before .before in
     same-len-mid (limits .nodes) (length (between nodes) - limits .nodes) (between nodes) (halves .clear-marks2 .last .1 .0) (halves .clear-marks2 .kept .1 .0)
     ∙ same-len-mid 0 (limits .nodes) (start (nodes .before .before .before .before) .args .marks .now) (nodes .clear-marks .last .1 .0) (nodes .clear-marks .kept .1 .0)
@@ -114,7 +117,7 @@ degrees-written c =
 
 returns : tie.Need-returns
 returns c =
-    let halves = c .before .before in
+    let halves = c .before .before .before in
     let nodes = halves .before .before .before .before in
     let degrees = nodes .before .before .before .before in
     let read = degrees .before .before .before .before .before in
@@ -128,7 +131,7 @@ returns c =
     let starRoom : 2 * limits .edges ≤ length stars = omega arith in
     let markRoom : limits .nodes ≤ length marks = omega arith in
     let room : limits .nodes ≤ length (between nodes) = part-clear-marks-start-2 (halves .before .before) in (
-      refl,
+      c .at-stage .ensures,
       (
         tail-before (2 * limits .edges) stars degreesAfter starRoom,
         (
@@ -170,6 +173,7 @@ reset-regions-spec =
     part-clear-marks-start-2
     part-clear-marks-end-2
     clear-marks-requires-2
+    at-stage-requires
     same-length
     same-length-2
     returns)

@@ -1,27 +1,24 @@
--- The stars as parts of one list, grouped by node, and what pruning asks of the tables.
-use Prim.Native.Nat.{ℕ, suc, _-_, _*_, _<_, _≤_}
+-- What pruning asks of the tables.
+use Prim.Native.Nat.{ℕ, suc, _*_, _<_, _≤_}
 use mathlib.Core.Bool.{Bool}
 use mathlib.Core.List.{List}
-use lib.ListN.{length, getD, take, drop}
+use lib.ListN.{length, getD}
 use Rattle.rules.specs.Limits.{Limits}
 use Rattle.rules.specs.Counted.{Stars, Counted}
-
--- node n's part of the grouped half-edges
-abbrev pub groupOf : List ℕ → List ℕ → ℕ → List ℕ
-groupOf offsets grouped n = take (getD offsets (suc n) 0 - getD offsets n 0) (drop (getD offsets n 0) grouped)
+use Rattle.stars.specs.Groups.{groupOf}
 
 -- the node that a half-edge starts at
 abbrev pub originIn : List ℕ → ℕ → ℕ
 originIn source h = getD source h 0
 
--- the parts lie within the list, and are the stars
+-- the groups lie within the list, and are the stars
 pub record Starred (nodes edges : ℕ) (offsets grouped source : List ℕ) : Type 0 where
   pub room : nodes < length offsets
   pub ends : (n : ℕ) → n < nodes → getD offsets (suc n) 0 ≤ length grouped
   pub sourceRoom : 2 * edges ≤ length source
   pub stars : Stars nodes edges (groupOf offsets grouped) (originIn source)
 
--- what pruning asks: counts within the limits, stars, tables that count right, and a list with room for every edge
+-- counts within the limits, stars, tables that count right, and a list with room for every edge
 pub record Prunable (l : Limits) (nodes edges : ℕ) (offsets grouped source degrees : List ℕ) (nodeMarks halfMarks : List Bool) (out : List ℕ) : Type 0 where
   pub fewNodes : nodes ≤ l .nodes
   pub fewEdges : edges ≤ l .edges
