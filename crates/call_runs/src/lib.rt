@@ -4,13 +4,11 @@ ghost use Prim.Native.Nat.{_≤_};
 ghost use lib.ListN.{length};
 
 mod damage;
-mod entering;
-mod lending;
 mod step;
 
-use crate::lending::NO_SLICE;
-use crate::lending::Settings;
 use crate::step::step;
+use call_entries::NO_SLICE;
+use call_entries::Settings;
 use call_image::IMAGE;
 use call_list::Call;
 use call_replies::say;

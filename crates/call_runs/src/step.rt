@@ -1,9 +1,9 @@
 // One line of the call list.
 use crate::damage::put_entry;
-use crate::entering::enter;
-use crate::lending::NO_SLICE;
-use crate::lending::Settings;
-use crate::lending::slice_of;
+use call_entries::NO_SLICE;
+use call_entries::Settings;
+use call_entries::enter;
+use call_entries::slice_of;
 use call_image::IMAGE;
 use call_image::copy_lists;
 use call_image::copy_slices;
