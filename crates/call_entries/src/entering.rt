@@ -85,11 +85,11 @@ fn add(
     match answer {
         AddReply::New(edge) => Outcome {
             graph: after,
-            reply: Reply::New(edge.0),
+            reply: Reply::New(edge),
         },
         AddReply::Old(edge) => Outcome {
             graph: after,
-            reply: Reply::Old(edge.0),
+            reply: Reply::Old(edge),
         },
         AddReply::Refused(why) => Outcome {
             graph: after,

@@ -19,6 +19,7 @@ use crate::image::same_around;
 use crate::image::same_part;
 use call_replies::Reply;
 use tables::DEGREES;
+use tables::EdgeId;
 use tables::HALF_MARKS;
 use tables::MAX_EDGES;
 use tables::MAX_HALF_EDGES;
@@ -92,16 +93,16 @@ fn same_but_nodes(before: &[u64; IMAGE], after: &[u64; IMAGE], old: u16, new: u1
 }
 
 // A table of half-edges but for the two of an edge.
-fn same_but_halves(before: &[u64; IMAGE], after: &[u64; IMAGE], at: usize, edge: u16) -> bool
+fn same_but_halves(before: &[u64; IMAGE], after: &[u64; IMAGE], at: usize, edge: EdgeId) -> bool
     requires { ⌜ at + 2 * limits .edges ≤ imageLength limits ⌝ }
 {
-    let k = wide(edge);
+    let k = wide(edge.0);
     same_around(before, after, at, MAX_HALF_EDGES, 2 * k, 2 * k + 2)
 }
 
 // The tables of edges and half-edges but for those of an edge.
-fn same_but_edge(before: &[u64; IMAGE], after: &[u64; IMAGE], edge: u16) -> bool {
-    let k = wide(edge);
+fn same_but_edge(before: &[u64; IMAGE], after: &[u64; IMAGE], edge: EdgeId) -> bool {
+    let k = wide(edge.0);
     same_around(
         before,
         after,

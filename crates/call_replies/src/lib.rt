@@ -1,5 +1,6 @@
 // What a run of a call list prints: the reply of each call in one form for all of them, and the state.
 use cycles::Census;
+use tables::EdgeId;
 use tables::PlanarGraph;
 
 mod printing;
@@ -21,8 +22,8 @@ pub use show::show_state;
 // The reply of a call.
 pub enum Reply {
     Created,
-    New(u16),
-    Old(u16),
+    New(EdgeId),
+    Old(EdgeId),
     Sorted,
     WasReset,
     Dangles(u16),

@@ -10,6 +10,7 @@ use crate::reads::number_after;
 use crate::reads::number_at;
 use crate::reads::side_at;
 use cycles::Census;
+use tables::EdgeId;
 use tables::wide;
 
 // Entries of a list, a space before each.
@@ -33,8 +34,8 @@ fn say_census(census: Census) {
     }
 }
 
-fn say_edge(edge: u16, is_new: bool) {
-    say_labelled(b"edge ", number(edge));
+fn say_edge(edge: EdgeId, is_new: bool) {
+    say_labelled(b"edge ", number(edge.0));
     if is_new {
         say(b" new");
     } else {

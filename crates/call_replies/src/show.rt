@@ -10,9 +10,11 @@ use crate::reads::mark_at;
 use crate::reads::number;
 use crate::reads::number_at;
 use tables::DEGREES;
+use tables::EdgeId;
 use tables::HALF_MARKS;
 use tables::NODES_Y;
 use tables::NODES_Z;
+use tables::NodeId;
 use tables::PlanarGraph;
 use tables::SEGMENTS;
 use tables::TARGETS;
@@ -31,22 +33,22 @@ fn say_star(node: u64, halves: usize, numbers: &[u16], stars: &[u16]) {
 }
 
 fn say_node(
-    node: u16,
+    node: NodeId,
     halves: usize,
     floats: &[f64],
     numbers: &[u16],
     stars: &[u16],
     marks: &[bool],
 ) {
-    let n = wide(node);
-    say_labelled(b"node ", number(node));
+    let n = wide(node.0);
+    say_labelled(b"node ", number(node.0));
     say_float(float_at(floats, n));
     say_float(float_at(floats, NODES_Y + n));
     say_float(float_at(floats, NODES_Z + n));
     say_labelled(b" degree ", number_at(stars, DEGREES + n));
     say_labelled(b" marked ", mark_at(marks, n));
     say(b" star");
-    say_star(number(node), halves, numbers, stars);
+    say_star(number(node.0), halves, numbers, stars);
     say(b"\n");
 }
 
@@ -55,14 +57,14 @@ fn say_nodes(graph: PlanarGraph, floats: &[f64], numbers: &[u16], stars: &[u16],
     let halves = 2 * wide(graph.edge_count);
     let mut i = 0;
     while i < nodes {
-        say_node(i, halves, floats, numbers, stars, marks);
+        say_node(NodeId(i), halves, floats, numbers, stars, marks);
         i += 1;
     }
 }
 
 // The six floats of a segment.
-fn say_segment(edge: u16, floats: &[f64]) {
-    let at = SEGMENTS + 6 * wide(edge);
+fn say_segment(edge: EdgeId, floats: &[f64]) {
+    let at = SEGMENTS + 6 * wide(edge.0);
     say_float(float_at(floats, at));
     say_float(float_at(floats, at + 1));
     say_float(float_at(floats, at + 2));
@@ -71,9 +73,9 @@ fn say_segment(edge: u16, floats: &[f64]) {
     say_float(float_at(floats, at + 5));
 }
 
-fn say_edge(edge: u16, floats: &[f64], numbers: &[u16], marks: &[bool], ids: &[u32]) {
-    let k = wide(edge);
-    say_labelled(b"edge ", number(edge));
+fn say_edge(edge: EdgeId, floats: &[f64], numbers: &[u16], marks: &[bool], ids: &[u32]) {
+    let k = wide(edge.0);
+    say_labelled(b"edge ", number(edge.0));
     say(b" line");
     say_segment(edge, floats);
     say_labelled(b" id ", id_at(ids, k));
@@ -88,7 +90,7 @@ fn say_edges(graph: PlanarGraph, floats: &[f64], numbers: &[u16], marks: &[bool]
     let edges = graph.edge_count;
     let mut i = 0;
     while i < edges {
-        say_edge(i, floats, numbers, marks, ids);
+        say_edge(EdgeId(i), floats, numbers, marks, ids);
         i += 1;
     }
 }
