@@ -1,6 +1,8 @@
 -- `is_sound` meets its contract: the regions are lent as parts.
-use Prim.Native.Nat.{_*_}
+use Prim.Native.Nat.{_*_, _-_}
+use native.Mathlib.Omega.{arith}
 use mathlib.Core.Path.{_∙_}
+use lib.ListN.{length, drop, length-take, length-drop}
 use Rattle.rules.specs.Limits.{limits}
 use Rattle.rules.specs.State.{sound}
 use Rattle.tables.specs.Tables.{stateOf}
@@ -83,7 +85,24 @@ part-is-sound-end-8 : tie.Need-part-is-sound-end-8
 part-is-sound-end-8 c = search needs
 
 is-sound-requires : tie.Need-is-sound-requires
-is-sound-requires c κs = search needs
+is-sound-requires c κs =
+    let k = c .before .before .before .before .before .before .before .before .before .before .before .before in
+    let floats = k .args .floats .now in
+    let numbers = k .args .numbers .now in
+    let stars = k .args .stars .now in
+    let marks = k .args .marks .now in
+    let n = limits .nodes in
+    let h = 2 * limits .edges in
+    record {
+      xRoom = omega (arith, k .pre .0, length-take n floats);
+      yRoom = omega (arith, k .pre .0, length-take n (drop n floats), length-drop n floats);
+      degreeRoom = omega (arith, k .pre .2, length-take (length stars - h) (drop h stars), length-drop h stars);
+      nodeMarkRoom = omega (arith, k .pre .3, length-take n marks);
+      sourceRoom = omega (arith, k .pre .1, length-take h numbers);
+      targetRoom = omega (arith, k .pre .1, length-take (length numbers - h) (drop h numbers), length-drop h numbers);
+      halfMarkRoom = omega (arith, k .pre .3, length-take (length marks - n) (drop n marks), length-drop n marks);
+      starRoom = omega (arith, k .pre .2, length-take h stars);
+    }
 
 -- the entry, from the place where the list was tested
 abbrev entry : tie.After-is-sound → tie.Start
