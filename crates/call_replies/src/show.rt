@@ -73,16 +73,21 @@ fn say_segment(edge: EdgeId, floats: &[f64]) {
     say_float(float_at(floats, at + 5));
 }
 
+// Where the first half of an edge starts and ends, and the marks of both.
+fn say_halves(edge: EdgeId, numbers: &[u16], marks: &[bool]) {
+    let h = 2 * wide(edge.0);
+    say_labelled(b" ends ", number_at(numbers, h));
+    say_spaced(number_at(numbers, TARGETS + h));
+    say_labelled(b" marked ", mark_at(marks, HALF_MARKS + h));
+    say_spaced(mark_at(marks, HALF_MARKS + h + 1));
+}
+
 fn say_edge(edge: EdgeId, floats: &[f64], numbers: &[u16], marks: &[bool], ids: &[u32]) {
-    let k = wide(edge.0);
     say_labelled(b"edge ", number(edge.0));
     say(b" line");
     say_segment(edge, floats);
-    say_labelled(b" id ", id_at(ids, k));
-    say_labelled(b" ends ", number_at(numbers, 2 * k));
-    say_spaced(number_at(numbers, TARGETS + 2 * k));
-    say_labelled(b" marked ", mark_at(marks, HALF_MARKS + 2 * k));
-    say_spaced(mark_at(marks, HALF_MARKS + 2 * k + 1));
+    say_labelled(b" id ", id_at(ids, wide(edge.0)));
+    say_halves(edge, numbers, marks);
     say(b"\n");
 }
 
