@@ -1,15 +1,15 @@
--- The lists of a sound state's rings: what writing the sides and numbering the faces ask, and what they leave as replied.
+-- The lists of a sound state's rings: what numbering the faces asks, and what it leaves as replied.
 use Prim.Native.Nat.{ℕ, _+_, _*_, _<_, _≤_}
 use native.Mathlib.Omega.{arith}
 use native.Mathlib.Nat.{add-zero}
 use mathlib.Core.Path.{_≡_, refl, sym, ap, subst, _∙_}
 use mathlib.Core.Bool.{true}
 use mathlib.Core.List.{List, [], _∷_, _++_, map, map-id, append-nil}
-use lib.ListN.{length, getD, take, drop, length-append, length-map, length-take, drop-of-length-le, List·getD-append}
+use lib.ListN.{length, getD, take, drop, length-take, drop-of-length-le}
 use lib.Seq.{take-append-seam, getD-take, getD-drop}
 use lib.Ieee.{Float, nan}
 use Rattle.lists.specs.Lists.{In, upto, flatten, over}
-use Rattle.lists.proofs.Members.{in-at, length-upto}
+use Rattle.lists.proofs.Members.{in-at}
 use Rattle.rules.specs.Limits.{Limits, Fine}
 use Rattle.rules.specs.Cycles.{halves}
 use Rattle.rules.specs.Split.{minimalRings}
@@ -22,19 +22,17 @@ use Rattle.rules.proofs.Soundness.{is-roomy, is-sound}
 use Rattle.rules.proofs.Tables.{source-below, sound-sane}
 use Rattle.rules.proofs.Areas.{exact-areas}
 use Rattle.rules.proofs.Counting.{minimal-few}
-use Rattle.rules.proofs.Claims.{halved}
+use Rattle.rules.proofs.Claims.{halved, each-at}
 use Rattle.rules.proofs.Replies.{rings-of-halves}
 use Rattle.rules.proofs.NamingSteps.{naming-few}
-use Rattle.rings.specs.Listing.{Listed, ringAt}
-use Rattle.rings.specs.Sides.{sideOf, sideIn, sideAreas, Sidable}
-use Rattle.rings.proofs.Meaning.{ring-read, rings-read, sidable, sides-exact}
+use Rattle.rings.specs.Listing.{RingRows, Listed, ringAt}
+use Rattle.rings.proofs.Bounds.{side-half, areas-small}
+use Rattle.rings.proofs.Meaning.{area-at, ends-within, rows-within, ring-read, rings-read, sides-exact}
 use Rattle.faces.specs.Listed.{HalfOf}
 use Rattle.faces.specs.Keys.{Startable}
 use Rattle.faces.specs.Numbers.{ringAt as ringFrom, ringsAt, faceNumbers, origins, rowsAt, comparisonsAt, Numberable}
-use Rattle.faces.proofs.Rows.{map-upto-at}
 use Rattle.faces.proofs.Filled.{ring-of-state}
-use Rattle.extracting.proofs.Starts.{each-at, rings-inside, rings-fit, ring-some, begins-apart}
-use Rattle.extracting.proofs.Bounds.{side-half, areas-small}
+use Rattle.extracting.proofs.Starts.{rings-inside, rings-fit, ring-some, begins-apart}
 
 -- as many half-edges as twice the edges
 halves-are : (s : State) → halves (arrangement s) ≡ 2 * s .edges
@@ -91,8 +89,8 @@ comparisons-fit l s sense low =
     let n : length (flatten rings) ≡ length (flatten (minimalRings (arrangement s))) = ap (λ r. length (flatten r)) (rings-of-halves s) in
     omega (arith, naming-few (nodeKey s) (arrangement s) rings, n, flat-few l s sense, is-sound l s sense .edges)
 
-module _ (l : Limits) (s : State) (sense : sound l s ≡ true) (rows₀ first₀ size₀ rows first size : List ℕ) (count : ℕ)
-    (listed : Listed (minimalRings (arrangement s)) rows₀ first₀ size₀ rows first size count) where
+module _ (l : Limits) (s : State) (sense : sound l s ≡ true) (halves₀ : List ℕ) (rows₀ : RingRows) (halves : List ℕ) (rows : RingRows) (count : ℕ)
+    (listed : Listed (minimalRings (arrangement s)) (s .source) (s .nodeX) (s .nodeY) halves₀ rows₀ halves rows count) where
   -- the rings
   abbrev rings : List (List ℕ)
   rings = minimalRings (arrangement s)
@@ -109,54 +107,42 @@ module _ (l : Limits) (s : State) (sense : sound l s ≡ true) (rows₀ first₀
   few : length rings ≤ 2 * s .edges
   few = rings-few s
 
-  -- the record that `write_sides` asks for
-  pub sides-asked : (sides areas : ℕ) → roomy l s ≡ true → 2 * s .edges ≤ length rows₀ → 2 * s .edges ≤ length first₀ → 2 * s .edges ≤ length size₀
-      → 2 * s .edges ≤ sides → 2 * s .edges ≤ areas → Sidable (s .source) (s .nodeX) (s .nodeY) rows first size count sides areas
-  sides-asked sides areas room a b c d e =
-      let r = is-roomy l s room in
-      let ok = is-sound l s sense in
-      sidable rings rows₀ first₀ size₀ rows first size count listed (s .edges) sides areas (s .source) (s .nodeX) (s .nodeY)
-      low (omega (arith, rings-fit (arrangement s) sane, halves-are s)) (omega (arith, few)) (omega (arith, few)) (omega (arith, few)) (omega (arith, few)) (omega (arith, r .source, ok .edges))
-      (λ h q. omega (arith, source-below l s ok h q, ok .nodes, r .nodeX)) (λ h q. omega (arith, source-below l s ok h q, ok .nodes, r .nodeY))
-
   module _ (total : ℕ) (all : total ≡ length (flatten rings)) where
     -- the part of the list that holds them
     abbrev front : List ℕ
-    front = take total rows
+    front = take total halves
 
     -- it is they
     front-is : front ≡ flatten rings
-    front-is = ap (λ n. take n rows) all ∙ ap (take (length (flatten rings))) (listed .rows) ∙ take-append-seam (flatten rings) (drop (length (flatten rings)) rows₀)
+    front-is = ap (λ n. take n halves) all ∙ ap (take (length (flatten rings))) (listed .halves) ∙ take-append-seam (flatten rings) (drop (length (flatten rings)) halves₀)
 
     -- and they are listed there too
-    front-listed : Listed rings (flatten rings) first₀ size₀ front first size count
-    front-listed = record { rows = front-is ∙ sym (over-self (flatten rings)); places = listed .places; sizes = listed .sizes; number = listed .number }
+    front-listed : Listed rings (s .source) (s .nodeX) (s .nodeY) (flatten rings) rows₀ front rows count
+    front-listed = record {
+      halves = front-is ∙ sym (over-self (flatten rings));
+      places = listed .places;
+      sizes = listed .sizes;
+      sides = listed .sides;
+      areas = listed .areas;
+      number = listed .number;
+    }
 
     -- the face numbers of the lists are the ones replied
-    pub faces-replied : faceNumbers (ringsAt front first size count (s .source) (s .nodeX) (s .nodeY)) ≡ map (λ w. w .face) (ringReplies s (ringsOf s) 0 (ringsOf s))
+    pub faces-replied : faceNumbers (ringsAt front (rows .first) (rows .size) count (s .source) (s .nodeX) (s .nodeY)) ≡ map (λ w. w .face) (ringReplies s (ringsOf s) 0 (ringsOf s))
     faces-replied =
-        ap faceNumbers (rings-from s front first size count
-        ∙ rings-read rings (flatten rings) first₀ size₀ front first size count front-listed (ringOf (pointOf s) (nodeKey s) (arrangement s)) ∙ sym (rings-of s))
+        ap faceNumbers (rings-from s front (rows .first) (rows .size) count
+        ∙ rings-read rings (s .source) (s .nodeX) (s .nodeY) (flatten rings) rows₀ front rows count front-listed (ringOf (pointOf s) (nodeKey s) (arrangement s)) ∙ sym (rings-of s))
         ∙ sym (replies-faces s (ringsOf s) 0 (ringsOf s))
 
     -- the rings of the lists are they
-    rows-are : rowsAt front first size count ≡ rings
-    rows-are = rings-read rings (flatten rings) first₀ size₀ front first size count front-listed (λ r. r) ∙ map-id rings
+    rows-are : rowsAt front (rows .first) (rows .size) count ≡ rings
+    rows-are = rings-read rings (s .source) (s .nodeX) (s .nodeY) (flatten rings) rows₀ front rows count front-listed (λ r. r) ∙ map-id rings
 
     -- and so are the comparisons
-    pub comparisons-replied : comparisonsAt front first size count (s .source) (s .nodeX) (s .nodeY) ≡ namingComparisons (nodeKey s) (arrangement s) (map (λ q. q .halfEdges) (ringsOf s))
+    pub comparisons-replied : comparisonsAt front (rows .first) (rows .size) count (s .source) (s .nodeX) (s .nodeY) ≡ namingComparisons (nodeKey s) (arrangement s) (map (λ q. q .halfEdges) (ringsOf s))
     comparisons-replied = ap (namingComparisons (keyIn (s .nodeX) (s .nodeY)) (origins (s .source))) (rows-are ∙ sym (rings-of-halves s)) ∙ keys-of-state s (map (λ q. q .halfEdges) (ringsOf s))
 
-    module _ (room : roomy l s ≡ true) (fine : Fine l) (inFirst : 2 * s .edges ≤ length first₀) (inSize : 2 * s .edges ≤ length size₀) where
-      -- the lists have places for them
-      within : Sidable (s .source) (s .nodeX) (s .nodeY) front first size count (length rings) (length rings)
-      within =
-          let r = is-roomy l s room in
-          let ok = is-sound l s sense in
-          sidable rings (flatten rings) first₀ size₀ front first size count front-listed (s .edges) (length rings) (length rings) (s .source) (s .nodeX) (s .nodeY)
-          low (omega arith) (omega (arith, few)) (omega (arith, few)) (omega arith) (omega arith) (omega (arith, r .source, ok .edges))
-          (λ h q. omega (arith, source-below l s ok h q, ok .nodes, r .nodeX)) (λ h q. omega (arith, source-below l s ok h q, ok .nodes, r .nodeY))
-
+    module _ (room : roomy l s ≡ true) (fine : Fine l) where
       -- a half-edge of the list starts at a node
       startable : (nodes : List Float) → l .nodes ≤ length nodes → Startable front (s .source) nodes
       startable nodes q k h =
@@ -166,62 +152,47 @@ module _ (l : Limits) (s : State) (sense : sound l s ≡ true) (rows₀ first₀
           (omega (arith, r .source, ok .edges), omega (arith, source-below l s ok (getD front k 0) a, ok .nodes))
 
       -- ring i is read out of it
-      read : (i : ℕ) → i < length rings → ringAt front first size i ≡ getD rings i []
-      read = ring-read rings (flatten rings) first₀ size₀ front first size count front-listed
+      read : (i : ℕ) → i < length rings → ringAt front (rows .first) (rows .size) i ≡ getD rings i []
+      read = ring-read rings (s .source) (s .nodeX) (s .nodeY) (flatten rings) rows₀ front rows count front-listed
 
       -- it is not empty
-      some : (i : ℕ) → i < length rings → 0 < getD size i 0
-      some i h = omega (arith, length-take (getD size i 0) (drop (getD first i 0) front), ap (λ r. length r) (read i h), ring-some (arrangement s) sane i h)
+      some : (i : ℕ) → i < length rings → 0 < getD (rows .size) i 0
+      some i h = omega (arith, length-take (getD (rows .size) i 0) (drop (getD (rows .first) i 0) front), ap (λ r. length r) (read i h), ring-some (arrangement s) sane i h)
 
       -- where it begins
-      begin-read : (i : ℕ) → i < length rings → getD front (getD first i 0) 0 ≡ getD (getD rings i []) 0 0
+      begin-read : (i : ℕ) → i < length rings → getD front (getD (rows .first) i 0) 0 ≡ getD (getD rings i []) 0 0
       begin-read i h =
-          ap (λ k. getD front k 0) (sym (add-zero (getD first i 0)))
-          ∙ sym (getD-take (getD size i 0) (drop (getD first i 0) front) 0 0 (some i h) ∙ getD-drop (getD first i 0) front 0 0)
+          ap (λ k. getD front k 0) (sym (add-zero (getD (rows .first) i 0)))
+          ∙ sym (getD-take (getD (rows .size) i 0) (drop (getD (rows .first) i 0) front) 0 0 (some i h) ∙ getD-drop (getD (rows .first) i 0) front 0 0)
           ∙ ap (λ r. getD r 0 0) (read i h)
 
-      module _ (areas₀ areas : List Float) (written : areas ≡ over (sideAreas (s .source) (s .nodeX) (s .nodeY) rows first size count) areas₀) where
-        -- the areas as written
-        abbrev row : List Float
-        row = sideAreas (s .source) (s .nodeX) (s .nodeY) rows first size count
+      -- its area is half of its doubled area
+      area-read : (i : ℕ) → i < length rings → getD (rows .area) i nan ≡ halved (doubledArea (pointOf s) (arrangement s) (getD rings i []))
+      area-read i h =
+          let z = doubledArea (pointOf s) (arrangement s) (getD rings i []) in
+          area-at rings (s .source) (s .nodeX) (s .nodeY) halves₀ rows₀ halves rows count listed i h
+          ∙ ap sideArea (each-at _ rings i h (sides-exact l fine s sense))
+          ∙ ap (λ a. sideArea (sideBy z a)) (each-at _ rings i h (exact-areas l fine s sense))
+          ∙ side-half z
 
-        -- one for each ring
-        row-length : length row ≡ count
-        row-length = length-map (upto count) (λ i. sideArea (sideOf (sideIn (s .source) (s .nodeX) (s .nodeY) (ringAt rows first size i)))) ∙ length-upto count
-
-        -- ring i's is half of its doubled area
-        area-read : (i : ℕ) → i < count → getD areas i nan ≡ halved (doubledArea (pointOf s) (arrangement s) (getD rings i []))
-        area-read i q =
-            let h : i < length rings = omega (arith, listed .number) in
-            let ring = getD rings i [] in
-            let z = doubledArea (pointOf s) (arrangement s) ring in
-            ap (λ a. getD a i nan) written ∙ List·getD-append row (drop (length row) areas₀) nan i (omega (arith, row-length))
-            ∙ map-upto-at (λ k. sideArea (sideOf (sideIn (s .source) (s .nodeX) (s .nodeY) (ringAt rows first size k)))) count i nan q
-            ∙ ap (λ r. sideArea (sideOf (sideIn (s .source) (s .nodeX) (s .nodeY) r))) (ring-read rings rows₀ first₀ size₀ rows first size count listed i h)
-            ∙ ap sideArea (each-at _ rings i h (sides-exact l fine s sense))
-            ∙ ap (λ a. sideArea (sideBy z a)) (each-at _ rings i h (exact-areas l fine s sense))
-            ∙ side-half z
-
-        -- the record that `number_faces` asks for
-        pub numberable : Numberable l front first size count (s .source) (s .nodeX) (s .nodeY) areas
-        numberable =
-            let ok = is-sound l s sense in
-            record {
-              few = omega (arith, listed .number, few, ok .edges);
-              short = omega (arith, ap (λ r. length r) front-is, rings-fit (arrangement s) sane, halves-are s, ok .edges);
-              firstRoom = within .inFirst;
-              lengthRoom = within .inSize;
-              areaRoom = omega (arith, ap (λ r. length r) written, length-append row (drop (length row) areas₀), row-length);
-              atX = startable (s .nodeX) (is-roomy l s room .nodeX);
-              atY = startable (s .nodeY) (is-roomy l s room .nodeY);
-              some = λ i q. some i (omega (arith, listed .number));
-              within = within .ends;
-              halves = λ i q.
-                  let h : i < length rings = omega (arith, listed .number) in
-                  subst (HalfOf (getD areas i nan)) (sym (ap (λ r. r .doubled) (ring-from s front first size i ∙ ap (ringOf (pointOf s) (nodeKey s) (arrangement s)) (read i h)) ∙ ring-doubled s (getD rings i [])))
-                  (record { small = each-at _ rings i h (areas-small l fine s sense); is = area-read i q });
-              apart = λ i j p q e.
-                  let a : i < length rings = omega (arith, listed .number) in
-                  let b : j < length rings = omega (arith, listed .number) in
-                  begins-apart (arrangement s) sane i j a b (sym (begin-read i a) ∙ e ∙ begin-read j b);
-            }
+      -- the record that `number_faces` asks for
+      pub numberable : Numberable l front (rows .first) (rows .size) count (s .source) (s .nodeX) (s .nodeY) (rows .area)
+      numberable =
+          let ok = is-sound l s sense in
+          let within = rows-within rings (s .source) (s .nodeX) (s .nodeY) halves₀ rows₀ halves rows count listed in
+          let at : (i : ℕ) → i < count → i < length rings = λ i q. omega (arith, listed .number) in
+          record {
+            few = omega (arith, listed .number, few, ok .edges);
+            short = omega (arith, ap (λ r. length r) front-is, rings-fit (arrangement s) sane, halves-are s, ok .edges);
+            firstRoom = within .inFirst;
+            lengthRoom = within .inSize;
+            areaRoom = within .inArea;
+            atX = startable (s .nodeX) (is-roomy l s room .nodeX);
+            atY = startable (s .nodeY) (is-roomy l s room .nodeY);
+            some = λ i q. some i (at i q);
+            within = λ i q. ends-within rings (s .source) (s .nodeX) (s .nodeY) (flatten rings) rows₀ front rows count front-listed i (at i q);
+            halves = λ i q.
+                subst (HalfOf (getD (rows .area) i nan)) (sym (ap (λ r. r .doubled) (ring-from s front (rows .first) (rows .size) i ∙ ap (ringOf (pointOf s) (nodeKey s) (arrangement s)) (read i (at i q))) ∙ ring-doubled s (getD rings i [])))
+                (record { small = each-at _ rings i (at i q) (areas-small l fine s sense); is = area-read i (at i q) });
+            apart = λ i j p q e. begins-apart (arrangement s) sane i j (at i p) (at j q) (sym (begin-read i (at i p)) ∙ e ∙ begin-read j (at j q));
+          }

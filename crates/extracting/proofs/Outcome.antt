@@ -17,11 +17,11 @@ use Rattle.rules.specs.Euler.{Census as Counts, edgeCount, census}
 use Rattle.rules.specs.Sane.{Sane}
 use Rattle.rules.specs.State.{State, arrangement, arrangementIn, roomy, sound}
 use Rattle.rules.specs.Adding.{Outcome, demand}
-use Rattle.rules.specs.Stages.{step}
 use Rattle.rules.specs.Ringing.{RingLists, Ringing, longEnough, ringsOf, ringed, ringStep}
 use Rattle.rules.proofs.Soundness.{is-sound}
 use Rattle.rules.proofs.Tables.{sound-sane}
 use Rattle.rules.proofs.Counting.{minimal-halves}
+use Rattle.rules.proofs.Replies.{ring-step-is}
 use Rattle.tables.specs.Tables.{stateOf}
 use Rattle.tables.specs.declared.PlanarGraph.{PlanarGraph}
 use Rattle.stars.specs.Grouped.{Grouped}
@@ -104,11 +104,6 @@ extraction-ringed g xs ys zs ds nm lines ids source target hm star out out′ r 
   state = stateOf (e .advanced i) xs ys zs ds nm lines ids source target hm star;
   lists = record { halfEdges = e .halfEdges i; first = e .first i; length = e .size i; face = e .face i; side = e .side i; area = e .area i };
 }
-
--- ring extraction is its tests and then `ringed`
-ring-step-is : (l : Limits) (s : State) (out : RingLists) → ringStep l s out ≡ step l 3 s out (demand (longEnough (2 * s .edges) out) 8 s out (ringed s out))
-unfolding ringStep
-ring-step-is l s out = refl
 
 -- the rule's outcome where nothing is refused
 pub ring-passes : (l : Limits) (s : State) → roomy l s ≡ true → sound l s ≡ true → s .stage ≡ 3 → (out : RingLists) → longEnough (2 * s .edges) out ≡ true → ringStep l s out ≡ ringed s out

@@ -1,11 +1,11 @@
 -- The rings of a sane arrangement: their half-edges are below the count, none is empty, and no two begin alike.
-use Prim.Native.Nat.{ℕ, zero, suc, _<_, _≤_}
+use Prim.Native.Nat.{ℕ, _<_, _≤_}
 use native.Mathlib.Omega.{arith}
 use mathlib.Core.Path.{_≡_, sym, ap, subst, _∙_}
 use mathlib.Core.Bool.{Bool}
 use mathlib.Core.List.{List, [], _∷_}
 use lib.ListN.{length, getD, length-map}
-use Rattle.lists.specs.Lists.{In, Each, below, countOf, flatten}
+use Rattle.lists.specs.Lists.{In, below, countOf, flatten}
 use Rattle.lists.proofs.Counts.{by-lt, below-le}
 use Rattle.lists.proofs.Members.{below-place}
 use Rattle.rules.specs.Cycles.{Arrangement, halves, cycle, isStart}
@@ -15,12 +15,6 @@ use Rattle.rules.proofs.CycleLaws.{cycle-is, cycle-self}
 use Rattle.rules.proofs.Partition.{true-start, beyond-never, total-length}
 use Rattle.rules.proofs.Rings.{minimal-rings-are, split-permutes}
 use Rattle.faces.proofs.Rows.{map-at}
-
--- what holds of each holds of the one at place i
-pub each-at : (P : List ℕ → Type 0) (ls : List (List ℕ)) (i : ℕ) → i < length ls → Each P ls → P (getD ls i [])
-each-at P [] i h e = absurd (omega arith)
-each-at P (l ∷ ls) zero h e = e .0
-each-at P (l ∷ ls) (suc i) h e = each-at P ls i (omega arith) (e .1)
 
 -- a list with a member is not empty
 in-some : (x : ℕ) (l : List ℕ) → In x l → 0 < length l

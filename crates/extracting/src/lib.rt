@@ -1,5 +1,5 @@
-// Ring extraction over grouped stars: the rings are listed, then their sides, areas and face
-// numbers are written. Carried over from planar_graph.rs.
+// Ring extraction over grouped stars: the rings are listed with their sides and areas, then their
+// face numbers are written. Carried over from planar_graph.rs.
 mod listing;
 
 pub use listing::RingCount;
@@ -50,20 +50,11 @@ pub fn extract_grouped(
         half_edges,
         ring_first,
         ring_length,
-    );
-    let count = listed.count;
-    let census = listed.census;
-    rings::write_sides(
-        count,
-        ring_first,
-        ring_length,
-        half_edges,
-        nodes_x,
-        nodes_y,
-        dir_edges_src,
         ring_side,
         ring_area,
     );
+    let count = listed.count;
+    let census = listed.census;
     let total = 2 * tables::wide(census.edges);
     let made = faces::number_faces(
         &half_edges[..total],
@@ -77,12 +68,9 @@ pub fn extract_grouped(
         ring_face,
     );
     let comparisons = made as u16;
+    let after = graph.at_stage(4);
     Extracted {
-        graph: PlanarGraph {
-            node_count: graph.node_count,
-            edge_count: graph.edge_count,
-            stage: 4,
-        },
+        graph: after,
         count,
         census,
         comparisons,

@@ -1,9 +1,12 @@
-// The rings of an arrangement, listed, and its census before splitting.
+// The rings of an arrangement, listed with their sides and areas, and its census before splitting.
 ghost use Rattle.rules.specs.Limits.{limits};
 ghost use Rattle.cycles.specs.Arranged.{Arranged};
 ghost use Rattle.stars.specs.Groups.{InEach};
 ghost use Rattle.pieces.specs.Seeds.{Placed};
+ghost use Rattle.rings.specs.Listing.{rowsOf};
 ghost use Rattle.extracting.specs.Listing.{RingRoom, RingsListed};
+use tables::MAX_HALF_EDGES;
+use tables::PlanarGraph;
 
 // How many rings were listed, and the census.
 pub struct RingCount {
@@ -13,7 +16,7 @@ pub struct RingCount {
 
 // Links, labels and counts the maximal rings, splits them, and lists the rings.
 pub fn list_rings(
-    graph: tables::PlanarGraph,
+    graph: PlanarGraph,
     nodes_x: &[f64],
     nodes_y: &[f64],
     offsets: &[u16],
@@ -23,12 +26,15 @@ pub fn list_rings(
     half_edges: &mut [u16],
     ring_first: &mut [u16],
     ring_length: &mut [u16],
+    ring_side: &mut [u8],
+    ring_area: &mut [f64],
 ) -> RingCount
-    requires { ⌜ (Arranged limits (graph .«node_count») (graph .«edge_count») (now «dir_edges_src») (now «dir_edges_marked») (now offsets) (now grouped)) × (Placed (graph .«node_count») (now «nodes_x») (now «nodes_y»)) × (RingRoom (graph .«edge_count») (now «half_edges») (now «ring_first») (now «ring_length»)) ⌝ }
-    ensures { λ r. ⌜ InEach (graph .«node_count») (graph .«edge_count») (now («dir_edges_src» .entry)) (now («dir_edges_marked» .entry)) (now (offsets .entry)) (now (grouped .entry)) (λ g. RingsListed g (now («half_edges» .entry)) (now («ring_first» .entry)) (now («ring_length» .entry)) (now («half_edges» .exit)) (now («ring_first» .exit)) (now («ring_length» .exit)) r) ⌝ }
+    requires { ⌜ (Arranged limits (graph .«node_count») (graph .«edge_count») (now «dir_edges_src») (now «dir_edges_marked») (now offsets) (now grouped)) × (Placed (graph .«node_count») (now «nodes_x») (now «nodes_y»)) × (RingRoom (graph .«edge_count») (now «half_edges») (rowsOf (now «ring_first») (now «ring_length») (now «ring_side») (now «ring_area»))) ⌝ }
+    ensures { λ r. ⌜ InEach (graph .«node_count») (graph .«edge_count») (now («dir_edges_src» .entry)) (now («dir_edges_marked» .entry)) (now (offsets .entry)) (now (grouped .entry)) (λ g. RingsListed g (now («dir_edges_src» .entry)) (now («nodes_x» .entry)) (now («nodes_y» .entry)) (now («half_edges» .entry)) (rowsOf (now («ring_first» .entry)) (now («ring_length» .entry)) (now («ring_side» .entry)) (now («ring_area» .entry)))
+        (now («half_edges» .exit)) (rowsOf (now («ring_first» .exit)) (now («ring_length» .exit)) (now («ring_side» .exit)) (now («ring_area» .exit))) r) ⌝ }
 {
-    let mut next = [0u16; 2048];
-    let mut labels = [0u16; 2048];
+    let mut next = [0u16; MAX_HALF_EDGES];
+    let mut labels = [0u16; MAX_HALF_EDGES];
     cycles::link_successors(graph, offsets, grouped, dir_edges_marked, &mut next);
     let maximal = cycles::label_rings(graph.edge_count, &next, dir_edges_marked, &mut labels);
     let census = cycles::count_census(
@@ -52,10 +58,15 @@ pub fn list_rings(
     let count = rings::walk_rings(
         graph.edge_count,
         &next,
+        dir_edges_src,
         dir_edges_marked,
+        nodes_x,
+        nodes_y,
         half_edges,
         ring_first,
         ring_length,
+        ring_side,
+        ring_area,
     );
     RingCount { count, census }
 }

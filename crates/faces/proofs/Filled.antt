@@ -7,9 +7,10 @@ use native.Mathlib.Omega.{arith}
 use lib.ListN.{length, getD, take, drop, length-append, length-drop, length-map, List·getD-append}
 use lib.Seq.{take-append-le, drop-append-le, ext-getD}
 use lib.Ieee.{Float, nan}
-use Rattle.lists.specs.Lists.{upto, pick, In, over, sum}
-use Rattle.lists.proofs.Counts.{by-test, in-head, in-tail}
+use Rattle.lists.specs.Lists.{upto, pick, over, sum}
+use Rattle.lists.proofs.Counts.{by-test}
 use Rattle.lists.proofs.Members.{length-upto}
+use Rattle.lists.proofs.Passing.{pick-agree}
 use Rattle.rotation.specs.Rotation.{Key, rotated, keysOf, leastRotation}
 use Rattle.rotation.specs.Steps.{comparisons}
 use Rattle.rotation.proofs.Keys.{length-keys}
@@ -34,11 +35,6 @@ use Rattle.faces.proofs.Rings.{doubled-half, before-order}
 how-many : (q : Ring → Bool) (R : ℕ → Ring) (l : List ℕ) → howMany q (map R l) ≡ length (pick (λ j. q (R j)) l)
 how-many q R [] = refl
 how-many q R (x ∷ l) = by-test (q (R x)) (λ e. rw e (omega (arith, how-many q R l))) (λ e. rw e (omega (arith, how-many q R l)))
-
--- tests that agree on the members pick the same
-pick-agree : (p q : ℕ → Bool) (l : List ℕ) → ((x : ℕ) → In x l → p x ≡ q x) → pick p l ≡ pick q l
-pick-agree p q [] e = refl
-pick-agree p q (x ∷ l) e = rw (e x (in-head x x l refl), pick-agree p q l (λ y m. e y (in-tail y x l m)))
 
 -- two rows of numbers, the one by way of rings
 row-same : {A : Type 0} (f : ℕ → ℕ) (F : A → ℕ) (R : ℕ → A) (n : ℕ) → ((i : ℕ) → i < n → f i ≡ F (R i)) → map f (upto n) ≡ map F (map R (upto n))

@@ -2,14 +2,15 @@
 // in a row. They are compared where they stand and never copied.
 ghost use mathlib.Core.Path.{_≡_};
 ghost use mathlib.Core.List.{map};
-ghost use Prim.Native.Nat.{ℕ, _+_, _<_, _≤_, _%_, _^_, min};
+ghost use Prim.Native.Nat.{ℕ, _+_, _<_, _≤_, _%_, _^_};
 ghost use lib.ListN.{length, getD};
 ghost use Rattle.lists.specs.Lists.{upto, over, sum};
 ghost use Rattle.rotation.specs.Rotation.{keyBefore, keyAt, keysOf};
 ghost use Rattle.faces.specs.Listed.{partOf};
 ghost use Rattle.faces.specs.Keys.{bitsFrom, Startable, searchOf, turnOf, stepsOf, turnedKeys, Turns, keysOrder};
-use crate::wide;
 use rotation::RotationStart;
+use rotation::lesser;
+use tables::wide;
 
 // How one list of keys stands to another.
 pub enum KeysOrder {
@@ -115,15 +116,6 @@ fn key_before(xs: &[u64], ys: &[u64], p: usize, q: usize) -> bool
         return false;
     }
     ys[p] < ys[q]
-}
-
-fn lesser(a: usize, b: usize) -> usize
-    ensures { λ r. ⌜ r ≡ min a b ⌝ }
-{
-    if a < b {
-        return a;
-    }
-    b
 }
 
 // By the first entry that differs; a prefix comes first.

@@ -5,11 +5,3 @@ mod numbers;
 mod order;
 
 pub use numbers::number_faces;
-ghost use mathlib.Core.Path.{_≡_};
-
-// A number of a node, a half-edge or a ring as an index.
-fn wide(n: u16) -> usize
-    ensures { λ r. ⌜ r ≡ n ⌝ }
-{
-    n as usize
-}

@@ -9,10 +9,8 @@ ghost use Rattle.faces.specs.Numbers.{indexOf, Once, ringsAt, faceNumber
 use crate::keys::write_bits;
 use crate::keys::write_turns;
 use crate::order::sort_rings;
-use crate::wide;
-
-// How many half-edges there are at most, and so how many rings.
-const MAX_HALF_EDGES: usize = 2 * tables::MAX_EDGES;
+use tables::MAX_HALF_EDGES;
+use tables::wide;
 
 // Each ring's number is its place in the order.
 fn write_places(order: &[u16], count: usize, faces: &mut [u16])

@@ -8,7 +8,8 @@ use mathlib.Core.List.{List, [], _∷_, map}
 use lib.IntN.{natAbs}
 use lib.Ieee.{nan}
 use lib.ListN.{length, getD, take, drop, length-append, length-map, List·getD-append, List·getD-map}
-use Rattle.lists.specs.Lists.{upto, flatten, over, Each}
+use Rattle.lists.specs.Lists.{upto, flatten, over}
+use Rattle.lists.proofs.Entries.{getD-any}
 use Rattle.lists.proofs.Searching.{upto-at}
 use Rattle.lists.proofs.Members.{length-upto}
 use Rattle.geometry.specs.Reply.{Reply, success}
@@ -19,10 +20,10 @@ use Rattle.rules.specs.Split.{minimalRings}
 use Rattle.rules.specs.Ringing.{Flat, sideBy, sideArea, floatArea, RingReply, ringReplies, ringsOf, RingLists, Ringing, ringed, ringStep}
 use Rattle.rules.specs.Claim.{ringsFrom}
 use Rattle.rules.proofs.Replies.{replies-length, ringed-from, ring-step-passed}
-use Rattle.rules.proofs.Claims.{halved}
+use Rattle.rules.proofs.Claims.{halved, each-at}
 use Rattle.rules.proofs.Areas.{exact-areas}
 use Rattle.rules.proofs.Histories.{fine-limits}
-use Rattle.extracting.proofs.Bounds.{side-half, areas-small}
+use Rattle.rings.proofs.Bounds.{side-half, areas-small}
 use Rattle.ring_entry.specs.Clause.{Extracts}
 use Rattle.listing_steps.specs.Listing.{noRing}
 use Rattle.listing_steps.specs.Shown.{HalfOf, passed, Entry, Shown}
@@ -30,18 +31,6 @@ use Rattle.listing_steps.proofs.Halving.{exact-half}
 use Rattle.listing_steps.proofs.RingTexts.{passed-next}
 
 -- ---- entries of lists
-
--- within the list the default does not matter
-getD-within : {A : Type 0} (l : List A) (i : ℕ) (a b : A) → i < length l → getD l i a ≡ getD l i b
-getD-within [] i a b h = absurd (omega arith)
-getD-within (x ∷ l) zero a b h = refl
-getD-within (x ∷ l) (suc i) a b h = getD-within l i a b (omega arith)
-
--- what holds of each list holds of the one at a place
-each-at : (P : List ℕ → Type 0) (ls : List (List ℕ)) (i : ℕ) → i < length ls → Each P ls → P (getD ls i [])
-each-at P [] i h e = absurd (omega arith)
-each-at P (l ∷ ls) zero h e = e .0
-each-at P (l ∷ ls) (suc i) h e = each-at P ls i (omega arith) (e .1)
 
 -- a front of lists is no longer than all
 flatten-front : (ls : List (List ℕ)) (k : ℕ) → length (flatten (take k ls)) ≤ length (flatten ls)
@@ -83,7 +72,7 @@ module _ (s : State) (all : List Ring) where
 entry-at : {A : Type 0} (F : RingReply → A) (ws : List RingReply) (out : List A) (i : ℕ) (d : A) → i < length ws → getD (over (map F ws) out) i d ≡ F (getD ws i noReply)
 entry-at F ws out i d h =
     let low : i < length (map F ws) = omega (arith, length-map ws F) in
-    List·getD-append (map F ws) (drop (length (map F ws)) out) d i low ∙ getD-within (map F ws) i d (F noReply) low ∙ List·getD-map F ws i noReply
+    List·getD-append (map F ws) (drop (length (map F ws)) out) d i low ∙ getD-any (map F ws) i d (F noReply) low ∙ List·getD-map F ws i noReply
 
 -- it has an entry for each
 over-long : {A : Type 0} (xs out : List A) → length xs ≤ length (over xs out)
@@ -97,7 +86,7 @@ module _ (s : State) where
   unfolding ringsOf
   ring-at i h =
       let f = ringOf (pointOf s) (nodeKey s) (arrangement s) in
-      getD-within (map f (minimalRings (arrangement s))) i noRing (f []) h ∙ List·getD-map f (minimalRings (arrangement s)) i []
+      getD-any (map f (minimalRings (arrangement s))) i noRing (f []) h ∙ List·getD-map f (minimalRings (arrangement s)) i []
 
   -- there are as many
   rings-many : length (ringsOf s) ≡ length (minimalRings (arrangement s))

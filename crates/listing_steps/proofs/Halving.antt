@@ -12,7 +12,7 @@ use Rattle.geometry.proofs.Exact.{whole-ofInt, lt-whole, le-whole, whole-coordi
 use Rattle.geometry.proofs.Halves.{half-plus-half}
 use Rattle.rules.specs.Ringing.{sideArea, exactSide}
 use Rattle.rules.proofs.Claims.{halved}
-use Rattle.extracting.proofs.Bounds.{side-half}
+use Rattle.rings.proofs.Bounds.{side-half}
 use Rattle.listing_steps.specs.Shown.{HalfOf}
 
 -- the area replied is half of the doubled area

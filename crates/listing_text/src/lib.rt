@@ -7,14 +7,10 @@ ghost use lib.ListN.{length, getD};
 ghost use Rattle.listing_text.specs.Decimal.{digit, decimal, signedDecimal};
 ghost use Rattle.listing_text.specs.Lines.{labelled, spaced, ringNodes, headLine, ringLine, refusalLine, headRoom, ringRoom, refusalRoom};
 ghost use Rattle.listing_text.specs.Buffer.{Put};
+use tables::DirEdgeId;
 use tables::FaceId;
-
-// A number of a table as an index.
-fn wide(n: u16) -> usize
-    ensures { λ r. ⌜ r ≡ n ⌝ }
-{
-    n as usize
-}
+use tables::NodeId;
+use tables::wide;
 
 // The byte of a digit.
 fn digit_byte(n: u64) -> u8
@@ -95,11 +91,22 @@ pub fn put_signed(out: &mut [u8], at: usize, n: i64) -> usize
     put_number(out, at, size)
 }
 
-// What a table holds at a place, 0 past its end.
-fn entry(table: &[u16], at: usize) -> u16
-    ensures { λ r. ⌜ r ≡ getD (now (table .entry)) at 0 ⌝ }
+// The node at which a half-edge starts: 0 past the table's end.
+fn origin(dir_edges_src: &[u16], half: DirEdgeId) -> NodeId
+    ensures { λ r. ⌜ r .0 ≡ getD (now («dir_edges_src» .entry)) (half .0) 0 ⌝ }
 {
-    if at < table.len() { table[at] } else { 0 }
+    let i = wide(half.0);
+    if i < dir_edges_src.len() {
+        return NodeId(dir_edges_src[i]);
+    }
+    NodeId(0)
+}
+
+// A node's number, for printing.
+fn node_number(node: NodeId) -> u64
+    ensures { λ r. ⌜ r ≡ node .0 ⌝ }
+{
+    node.0 as u64
 }
 
 // The nodes at which a ring's half-edges start, a space before each.
@@ -118,9 +125,9 @@ fn put_nodes(
     let mut place = at;
     let mut i = 0;
     while i < ring_length {
-        let half_edge = wide(half_edges[first + i]);
-        let node = wide(entry(dir_edges_src, half_edge));
-        place = put_labelled(out, place, b" ", node as u64);
+        let half = half_edges[first + i];
+        let node = origin(dir_edges_src, DirEdgeId(half));
+        place = put_labelled(out, place, b" ", node_number(node));
         i += 1;
     }
     place

@@ -1,19 +1,13 @@
 -- Entries of lists, and lists written over the front of another.
-use Prim.Native.Nat.{ℕ, zero, suc, _+_, _<_, _≤_}
+use Prim.Native.Nat.{suc, _+_, _<_, _≤_}
 use native.Mathlib.Omega.{arith}
-use mathlib.Core.Path.{_≡_, refl, sym, ap, _∙_}
+use mathlib.Core.Path.{_≡_, sym, ap, _∙_}
 use mathlib.Core.List.{List, [], _∷_, _++_, append-assoc, append-nil}
 use lib.ListN.{length, getD, set, drop, length-append, length-drop}
 use lib.Seq.{drop-cons, set-append-seam, sets}
 use Rattle.lists.specs.Lists.{over}
 
 module _ {A : Type 0} where
-  -- within the list the default does not matter
-  pub getD-any : (l : List A) (i : ℕ) (d e : A) → i < length l → getD l i d ≡ getD l i e
-  getD-any [] i d e h = absurd (omega arith)
-  getD-any (x ∷ l) zero d e h = refl
-  getD-any (x ∷ l) (suc i) d e h = getD-any l i d e (omega arith)
-
   -- the lent list keeps its length
   pub length-over : (xs out : List A) → length xs ≤ length out → length (over xs out) ≡ length out
   length-over xs out h = omega (arith, length-append xs (drop (length xs) out), length-drop (length xs) out)

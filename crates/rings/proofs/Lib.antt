@@ -4,6 +4,6 @@ pub mod Parts
 pub mod Splitting
 pub mod Walking
 pub mod Rows
-pub mod Summing
+pub mod Bounds
 pub mod Siding
 pub mod Meaning

@@ -1,50 +1,24 @@
--- A part of a list, taken from its first entry or built from its last, and what is picked of it.
-use Prim.Native.Nat.{ℕ, suc, _+_, _-_, _<_, _≤_}
+-- A part of a list built from its last entry on, and what is picked of it.
+use Prim.Native.Nat.{ℕ, suc, _≤_}
 use native.Mathlib.Omega.{arith}
 use native.Mathlib.Numerals.{add-one}
-use mathlib.Core.Path.{_≡_, ap, _∙_, subst}
+use mathlib.Core.Path.{_≡_, ap, _∙_}
 use mathlib.Core.Bool.{Bool, true, false}
-use mathlib.Core.List.{List, [], _∷_}
-use lib.ListN.{length, getD, drop, length-take, length-drop}
-use lib.Seq.{drop-cons, getD-take, getD-drop}
-use Rattle.lists.specs.Lists.{pick, In}
-use Rattle.lists.proofs.Members.{in-at}
-use Rattle.rings.specs.Groups.{part, groupOf, PartWithin, GroupsWithin}
-
--- nothing is left at the end
-pub part-end : (from to : ℕ) (l : List ℕ) → to ≤ from → part from to l ≡ []
-part-end from to l h = let e : to - from ≡ 0 = omega arith in rw e
+use mathlib.Core.List.{List, _∷_}
+use lib.ListN.{length, getD}
+use Rattle.lists.specs.Lists.{pick}
+use Rattle.stars.specs.Groups.{part}
+use Rattle.stars.proofs.Groups.{part-cons}
 
 -- the entry before a part, and the part
-pub part-cons : (i j to : ℕ) (l : List ℕ) → suc i ≡ j → j ≤ to → to ≤ length l → part i to l ≡ getD l i 0 ∷ part j to l
-part-cons i j to l s h k =
-    let e : to - i ≡ suc (to - suc i) = omega arith in
-    rw (← s, e, drop-cons l i 0 (omega arith))
-
--- what stands within the part is a member of it
-pub part-in : (from to i : ℕ) (l : List ℕ) → from ≤ i → i < to → to ≤ length l → In (getD l i 0) (part from to l)
-part-in from to i l a b k =
-    let e : from + (i - from) ≡ i = omega arith in
-    let s : getD (part from to l) (i - from) 0 ≡ getD l i 0 =
-    getD-take (to - from) (drop from l) (i - from) 0 (omega arith) ∙ getD-drop from l (i - from) 0 ∙ ap (λ j. getD l j 0) e in
-    subst (λ x. In x (part from to l)) s
-    (in-at (part from to l) (i - from) (omega (arith, length-take (to - from) (drop from l), length-drop from l)))
+pub part-before : (i j to : ℕ) (l : List ℕ) → suc i ≡ j → j ≤ to → to ≤ length l → part i to l ≡ getD l i 0 ∷ part j to l
+part-before i j to l s h k = part-cons i to l (omega arith) k ∙ ap (λ n. getD l i 0 ∷ part n to l) (add-one i ∙ s)
 
 module _ (p : ℕ → Bool) (i j to : ℕ) (l : List ℕ) (s : suc i ≡ j) (h : j ≤ to) (k : to ≤ length l) where
   -- an entry that passes is picked
-  pub part-yes : p (getD l i 0) ≡ true → pick p (part i to l) ≡ getD l i 0 ∷ pick p (part j to l)
-  part-yes e = ap (pick p) (part-cons i j to l s h k) ∙ rw e
+  pub before-yes : p (getD l i 0) ≡ true → pick p (part i to l) ≡ getD l i 0 ∷ pick p (part j to l)
+  before-yes e = ap (pick p) (part-before i j to l s h k) ∙ rw e
 
   -- one that does not is passed over
-  pub part-no : p (getD l i 0) ≡ false → pick p (part i to l) ≡ pick p (part j to l)
-  part-no e = ap (pick p) (part-cons i j to l s h k) ∙ rw e
-
--- a node's part, by the two places that were read
-module _ (offsets grouped : List ℕ) (n from to : ℕ) (a : from ≡ getD offsets n 0) (b : to ≡ getD offsets (n + 1) 0) where
-  -- it is the node's group
-  pub group-part : part from to grouped ≡ groupOf offsets grouped n
-  group-part = rw (a, b, add-one n)
-
-  -- it lies within the groups
-  pub group-within : (nodes count : ℕ) → GroupsWithin nodes count offsets grouped → n < nodes → PartWithin count from to grouped
-  group-within nodes count w l = rw (a, b, add-one n) (w .each n l)
+  pub before-no : p (getD l i 0) ≡ false → pick p (part i to l) ≡ pick p (part j to l)
+  before-no e = ap (pick p) (part-before i j to l s h k) ∙ rw e

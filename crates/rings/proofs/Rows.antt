@@ -3,12 +3,13 @@ use Prim.Native.Nat.{ℕ, suc, _+_, _-_, _*_, _<_, _≤_}
 use native.Mathlib.Omega.{arith}
 use native.Mathlib.Numerals.{add-one}
 use native.Mathlib.Nat.{zero-add, add-zero}
-use mathlib.Core.Path.{_≡_, refl, sym, ap, _∙_}
+use mathlib.Core.Path.{_≡_, refl, sym, ap, ap₂, _∙_, subst}
 use mathlib.Core.Bool.{Bool, true, false}
-use mathlib.Core.List.{List, [], _∷_, _++_, map, append-nil}
+use mathlib.Core.List.{List, [], _∷_, _++_, map, map-append, append-nil}
 use lib.ListN.{length, getD, set, drop, replicate, length-append, length-set, length-map, length-replicate, List·getD-append, replicate-append-replicate}
 use lib.Seq.{set-append-left, drop-at, sets}
 use lib.Dec.{ltb}
+use lib.Ieee.{Float, nan}
 use Rattle.lists.specs.Lists.{In, below, flatten, over}
 use Rattle.lists.proofs.Counts.{by-test, by-lt, bit-le, true-is-false, in-head, in-tail, below-le, flatten-append}
 use Rattle.lists.proofs.Sums.{pigeonhole}
@@ -22,8 +23,11 @@ use Rattle.rules.proofs.Marking.{mark, stamp}
 use Rattle.rules.proofs.Sweep.{Swept, sweep, sweep-new, sweep-inactive, sweep-has, sweep-done, sweep-cycles, cycle-stamp}
 use Rattle.rules.proofs.Permuting.{permutes-same, cycles-agree}
 use Rattle.rules.proofs.Rings.{minimal-rings-are, split-permutes}
-use Rattle.rings.specs.Groups.{unmarked, entryOf}
-use Rattle.rings.specs.Listing.{tableRings, firstPlaces, sizeOf, stampedAt, WalkedRing, Listed}
+use Rattle.stars.specs.Groups.{unmarked}
+use Rattle.rings.specs.Tallies.{tallyOf}
+use Rattle.rings.specs.Sides.{numberIn, shownIn}
+use Rattle.rings.specs.Listing.{entryOf, tableRings, firstPlaces, sizeOf, RingRows, rowPut, RowsRoom, stampedAt, WalkedRing, Listed}
+use Rattle.rings.specs.declared.tally.Tally.{Tally}
 use Rattle.rings.proofs.Entries.{over-set, over-sets}
 
 -- ---- lists
@@ -62,30 +66,31 @@ places-more at (x ∷ rs) r =
     let e : at + length x + length (flatten rs) ≡ at + length (x ++ flatten rs) = omega (arith, length-append x (flatten rs)) in
     ap (λ l. at ∷ l) (places-more (at + length x) rs r ∙ ap (λ k. firstPlaces (at + length x) rs ++ (k ∷ [])) e)
 
--- the length of one more
-sizes-more : (rs : List (List ℕ)) (r : List ℕ) → map sizeOf (rs ++ (r ∷ [])) ≡ map sizeOf rs ++ (length r ∷ [])
-sizes-more [] r = refl
-sizes-more (x ∷ rs) r = ap (λ l. length x ∷ l) (sizes-more rs r)
+-- what is said of each ring, with one more written behind the others
+over-ring : {B : Type 0} (F : List ℕ → B) (d : B) (rs : List (List ℕ)) (r : List ℕ) (out : List B) (i : ℕ) (v : B) → i ≡ length rs → length rs < length out → v ≡ F r
+    → set (over (map F rs) out) i v ≡ over (map F (rs ++ (r ∷ []))) out
+over-ring F d rs r out i v e h q =
+    ap (λ k. set (over (map F rs) out) k v) (e ∙ sym (length-map rs F))
+    ∙ over-set d (map F rs) out v (omega (arith, length-map rs F))
+    ∙ ap (λ z. over (map F rs ++ (z ∷ [])) out) q
+    ∙ ap (λ z. over z out) (sym (map-append F rs (r ∷ [])))
 
 -- ---- the loop
 
-module _ (edges : ℕ) (next : List ℕ) (marks seen₀ : List Bool) (rows₀ first₀ size₀ : List ℕ) where
+module _ (edges : ℕ) (next source : List ℕ) (marks : List Bool) (xs ys : List Float) (seen₀ : List Bool) (halves₀ : List ℕ) (rows₀ : RingRows) where
   -- what the procedure has after k half-edges
   abbrev pub after : ℕ → Swept
   after k = sweep (entryOf next) (2 * edges) (unmarked marks) k
 
   -- what holds after k half-edges
-  pub record Held (seen : List Bool) (rows first size : List ℕ) (count at k : ℕ) : Type 0 where
+  pub record Held (seen : List Bool) (halves : List ℕ) (rows : RingRows) (count at k : ℕ) : Type 0 where
     pub inside : k ≤ 2 * edges
     pub marked : seen ≡ after k .seen ++ drop (2 * edges) seen₀
-    pub listed : rows ≡ over (flatten (after k .found)) rows₀
-    pub places : first ≡ over (firstPlaces 0 (after k .found)) first₀
-    pub sizes : size ≡ over (map sizeOf (after k .found)) size₀
-    pub number : count ≡ length (after k .found)
+    pub listed : Listed (after k .found) source xs ys halves₀ rows₀ halves rows count
     pub place : at ≡ length (flatten (after k .found))
 
   -- at first nothing is seen or listed
-  pub held-first : 2 * edges ≤ length seen₀ → seen₀ ≡ replicate (length seen₀) false → Held seen₀ rows₀ first₀ size₀ 0 0 0
+  pub held-first : 2 * edges ≤ length seen₀ → seen₀ ≡ replicate (length seen₀) false → Held seen₀ halves₀ rows₀ 0 0 0
   held-first l e =
       let n : ℕ = 2 * edges in
       let m : n + (length seen₀ - n) ≡ length seen₀ = omega arith in
@@ -95,10 +100,7 @@ module _ (edges : ℕ) (next : List ℕ) (marks seen₀ : List Bool) (rows₀ fi
         inside = omega arith;
         marked = front ∙ ap (λ r. replicate n false ++ r)
             (sym (ap (drop n) front ∙ drop-at (replicate n false) (replicate (length seen₀ - n) false) n (length-replicate n false)));
-        listed = refl;
-        places = refl;
-        sizes = refl;
-        number = refl;
+        listed = record { halves = refl; places = refl; sizes = refl; sides = refl; areas = refl; number = refl };
         place = refl;
       }
 
@@ -108,9 +110,9 @@ module _ (edges : ℕ) (next : List ℕ) (marks seen₀ : List Bool) (rows₀ fi
     size-seen k h = sweep-done (entryOf next) (2 * edges) (unmarked marks) t k h .size
 
     -- whether k was seen is the procedure's answer
-    held-at : (seen : List Bool) (rows first size : List ℕ) (count at k : ℕ) → k < 2 * edges → Held seen rows first size count at k
+    held-at : (seen : List Bool) (halves : List ℕ) (rows : RingRows) (count at k : ℕ) → k < 2 * edges → Held seen halves rows count at k
         → getD seen k false ≡ getD (after k .seen) k false
-    held-at seen rows first size count at k h r =
+    held-at seen halves rows count at k h r =
         ap (λ l. getD l k false) (r .marked) ∙ List·getD-append (after k .seen) (drop (2 * edges) seen₀) false k (omega (arith, size-seen k (omega arith)))
 
     -- the rings found have no more half-edges than there are
@@ -136,102 +138,102 @@ module _ (edges : ℕ) (next : List ℕ) (marks seen₀ : List Bool) (rows₀ fi
         rw (sweep-done f n on t k h .found) (omega (arith, length-map (below (isStart f n on) k) (cycle f n), below-le (isStart f n on) k))
 
     -- so the count is small too
-    pub held-few : (seen : List Bool) (rows first size : List ℕ) (count at k : ℕ) → Held seen rows first size count at k → count ≤ k
-    held-few seen rows first size count at k r = omega (arith, r .number, found-few k (r .inside))
+    pub held-few : (seen : List Bool) (halves : List ℕ) (rows : RingRows) (count at k : ℕ) → Held seen halves rows count at k → count ≤ k
+    held-few seen halves rows count at k r = omega (arith, r .listed .number, found-few k (r .inside))
 
-    -- a half-edge that was not seen: its ring is found
-    module _ (seen : List Bool) (rows first size : List ℕ) (count at k : ℕ) (h : k < 2 * edges) (a : unmarked marks k ≡ true) (e : getD seen k false ≡ false)
-        (r : Held seen rows first size count at k) where
-      -- the procedure finds it too
-      found-new : after (suc k) ≡ record { found = after k .found ++ (cycle (entryOf next) (2 * edges) k ∷ []); seen = stamp (entryOf next) true (2 * edges) k k (after k .seen) }
-      found-new = sweep-new (entryOf next) (2 * edges) (unmarked marks) k a (sym (held-at seen rows first size count at k h r) ∙ e)
+    module _ (seen : List Bool) (halves : List ℕ) (rows : RingRows) (count at k : ℕ) (h : k < 2 * edges) (r : Held seen halves rows count at k) where
+      -- a half-edge that was not seen: its ring is found
+      module _ (a : unmarked marks k ≡ true) (e : getD seen k false ≡ false) where
+        -- the procedure finds it too
+        found-new : after (suc k) ≡ record { found = after k .found ++ (cycle (entryOf next) (2 * edges) k ∷ []); seen = stamp (entryOf next) true (2 * edges) k k (after k .seen) }
+        found-new = sweep-new (entryOf next) (2 * edges) (unmarked marks) k a (sym (held-at seen halves rows count at k h r) ∙ e)
 
-      -- there is room for it
-      pub held-room : at + length (cycle (entryOf next) (2 * edges) k) ≤ 2 * edges
-      held-room =
-          let ring = cycle (entryOf next) (2 * edges) k in
-          omega (
-            arith,
-            r .place,
-            found-total (suc k) h,
-            ap (λ s. length (flatten (s .found))) found-new,
-            ap length (flatten-more (after k .found) ring),
-            length-append (flatten (after k .found)) ring,
-          )
+        -- there is room for it
+        pub held-room : at + length (cycle (entryOf next) (2 * edges) k) ≤ 2 * edges
+        held-room =
+            let ring = cycle (entryOf next) (2 * edges) k in
+            omega (
+              arith,
+              r .place,
+              found-total (suc k) h,
+              ap (λ s. length (flatten (s .found))) found-new,
+              ap length (flatten-more (after k .found) ring),
+              length-append (flatten (after k .found)) ring,
+            )
 
-      -- it is listed behind the others
-      pub held-new : 2 * edges ≤ length rows₀ → 2 * edges ≤ length first₀ → 2 * edges ≤ length size₀
-          → (seen′ : List Bool) (rows′ first′ size′ : List ℕ) (count′ end : ℕ) → WalkedRing (entryOf next) (2 * edges) k at seen rows seen′ rows′ end
-          → first′ ≡ set first count at → size′ ≡ set size count (end - at) → count′ ≡ count + 1 → Held seen′ rows′ first′ size′ count′ end (k + 1)
-      held-new inRows inFirst inSize seen′ rows′ first′ size′ count′ end w p s c =
-          let f = entryOf next in
-          let n : ℕ = 2 * edges in
-          let ring = cycle f n k in
-          let rs = after k .found in
-          let long : length ring ≡ end - at = omega (arith, w .ends) in
-          let few = found-few k (r .inside) in
+        -- it is listed behind the others
+        pub held-new : 2 * edges ≤ length halves₀ → RowsRoom (2 * edges) rows₀
+            → (seen′ : List Bool) (halves′ : List ℕ) (rows′ : RingRows) (tally : Tally) (count′ end : ℕ) → WalkedRing (entryOf next) (2 * edges) k at source xs ys seen halves seen′ halves′ tally
+            → rows′ ≡ rowPut count at tally rows → count′ ≡ count + 1 → end ≡ at + tally .count → Held seen′ halves′ rows′ count′ end (k + 1)
+        held-new inHalves inRows seen′ halves′ rows′ tally count′ end w p c q =
+            let f = entryOf next in
+            let n : ℕ = 2 * edges in
+            let ring = cycle f n k in
+            let rs = after k .found in
+            let o = r .listed in
+            let few = found-few k (r .inside) in
+            let written : rows′ ≡ rowPut count at (tallyOf source xs ys ring) rows = p ∙ ap (λ z. rowPut count at z rows) (w .tallied) in
+            let long : end ≡ at + length ring = q ∙ ap (λ z. at + z .count) (w .tallied) in
+            record {
+              inside = omega arith;
+              marked = rw (add-one k, found-new) (w .marks ∙ ap (stampedAt ring true) (r .marked)
+                  ∙ stamped-front ring true (after k .seen) (drop n seen₀)
+                  (λ x m. rw (size-seen k (r .inside)) (cycle-live f n (unmarked marks) t k x (h, a) m .0))
+                  ∙ ap (λ z. z ++ drop n seen₀) (sym (cycle-stamp f n true k (after k .seen) ∙ mark-stamped ring true (after k .seen))));
+              listed = rw (add-one k, found-new) (record {
+                halves = w .lists ∙ ap₂ (λ y z. sets y z ring) (o .halves) (r .place)
+                    ∙ over-sets 0 (flatten rs) ring halves₀ (omega (arith, held-room, r .place)) ∙ ap (λ z. over z halves₀) (sym (flatten-more rs ring));
+                places = ap (λ z. z .first) written ∙ ap₂ (λ y z. set y z at) (o .places) (o .number ∙ sym (length-places 0 rs))
+                    ∙ over-set 0 (firstPlaces 0 rs) (rows₀ .first) at (omega (arith, length-places 0 rs, inRows .inFirst))
+                    ∙ ap (λ z. over (firstPlaces 0 rs ++ (z ∷ [])) (rows₀ .first)) (r .place ∙ sym (zero-add (length (flatten rs))))
+                    ∙ ap (λ z. over z (rows₀ .first)) (sym (places-more 0 rs ring));
+                sizes = ap (λ z. z .size) written ∙ ap (λ y. set y count (length ring)) (o .sizes)
+                    ∙ over-ring sizeOf 0 rs ring (rows₀ .size) count (length ring) (o .number) (omega (arith, inRows .inSize)) refl;
+                sides = ap (λ z. z .side) written ∙ ap (λ y. set y count (numberIn source xs ys ring)) (o .sides)
+                    ∙ over-ring (numberIn source xs ys) 0 rs ring (rows₀ .side) count (numberIn source xs ys ring) (o .number) (omega (arith, inRows .inSide)) refl;
+                areas = ap (λ z. z .area) written ∙ ap (λ y. set y count (shownIn source xs ys ring)) (o .areas)
+                    ∙ over-ring (shownIn source xs ys) nan rs ring (rows₀ .area) count (shownIn source xs ys ring) (o .number) (omega (arith, inRows .inArea)) refl;
+                number = omega (arith, c, o .number, length-append rs (ring ∷ []));
+              });
+              place = rw (add-one k, found-new) (omega (arith, long, r .place, ap length (flatten-more rs ring), length-append (flatten rs) ring));
+            }
+
+      -- nothing changes
+      held-same : (seen′ : List Bool) (halves′ : List ℕ) (rows′ : RingRows) (count′ at′ : ℕ) → after (suc k) ≡ after k
+          → seen′ ≡ seen → halves′ ≡ halves → rows′ ≡ rows → count′ ≡ count → at′ ≡ at → Held seen′ halves′ rows′ count′ at′ (k + 1)
+      held-same seen′ halves′ rows′ count′ at′ s e₁ e₂ e₃ e₄ e₅ =
+          let o = r .listed in
           record {
             inside = omega arith;
-            marked = rw (add-one k, found-new) (w .marks ∙ ap (stampedAt ring true) (r .marked)
-                ∙ stamped-front ring true (after k .seen) (drop n seen₀)
-                (λ x m. rw (size-seen k (r .inside)) (cycle-live f n (unmarked marks) t k x (h, a) m .0))
-                ∙ ap (λ z. z ++ drop n seen₀) (sym (cycle-stamp f n true k (after k .seen) ∙ mark-stamped ring true (after k .seen))));
-            listed = rw (add-one k, found-new) (w .lists ∙ ap (λ z. sets z at ring) (r .listed) ∙ ap (λ z. sets (over (flatten rs) rows₀) z ring) (r .place)
-                ∙ over-sets 0 (flatten rs) ring rows₀ (omega (arith, held-room, r .place)) ∙ ap (λ z. over z rows₀) (sym (flatten-more rs ring)));
-            places = rw (add-one k, found-new) (p ∙ ap (λ z. set z count at) (r .places)
-                ∙ ap (λ z. set (over (firstPlaces 0 rs) first₀) z at) (r .number ∙ sym (length-places 0 rs))
-                ∙ over-set 0 (firstPlaces 0 rs) first₀ at (omega (arith, length-places 0 rs))
-                ∙ ap (λ z. over (firstPlaces 0 rs ++ (z ∷ [])) first₀) (r .place ∙ sym (zero-add (length (flatten rs))))
-                ∙ ap (λ z. over z first₀) (sym (places-more 0 rs ring)));
-            sizes = rw (add-one k, found-new) (s ∙ ap (λ z. set z count (end - at)) (r .sizes)
-                ∙ ap (λ z. set (over (map sizeOf rs) size₀) z (end - at)) (r .number ∙ sym (length-map rs sizeOf))
-                ∙ over-set 0 (map sizeOf rs) size₀ (end - at) (omega (arith, length-map rs sizeOf))
-                ∙ ap (λ z. over (map sizeOf rs ++ (z ∷ [])) size₀) (sym long)
-                ∙ ap (λ z. over z size₀) (sym (sizes-more rs ring)));
-            number = rw (add-one k, found-new) (omega (arith, c, r .number, length-append rs (ring ∷ [])));
-            place = rw (add-one k, found-new) (omega (arith, w .ends, r .place, ap length (flatten-more rs ring), length-append (flatten rs) ring));
+            marked = rw (add-one k, s) (e₁ ∙ r .marked);
+            listed = rw (add-one k, s) (record {
+              halves = e₂ ∙ o .halves;
+              places = ap (λ z. z .first) e₃ ∙ o .places;
+              sizes = ap (λ z. z .size) e₃ ∙ o .sizes;
+              sides = ap (λ z. z .side) e₃ ∙ o .sides;
+              areas = ap (λ z. z .area) e₃ ∙ o .areas;
+              number = e₄ ∙ o .number;
+            });
+            place = rw (add-one k, s) (e₅ ∙ r .place);
           }
 
-    -- nothing changes
-    held-same : (seen seen′ : List Bool) (rows first size rows′ first′ size′ : List ℕ) (count at count′ at′ k : ℕ) → k < 2 * edges → after (suc k) ≡ after k
-        → seen′ ≡ seen → rows′ ≡ rows → first′ ≡ first → size′ ≡ size → count′ ≡ count → at′ ≡ at
-        → Held seen rows first size count at k → Held seen′ rows′ first′ size′ count′ at′ (k + 1)
-    held-same seen seen′ rows first size rows′ first′ size′ count at count′ at′ k h s e₁ e₂ e₃ e₄ e₅ e₆ r = record {
-      inside = omega arith;
-      marked = rw (add-one k, s) (e₁ ∙ r .marked);
-      listed = rw (add-one k, s) (e₂ ∙ r .listed);
-      places = rw (add-one k, s) (e₃ ∙ r .places);
-      sizes = rw (add-one k, s) (e₄ ∙ r .sizes);
-      number = rw (add-one k, s) (e₅ ∙ r .number);
-      place = rw (add-one k, s) (e₆ ∙ r .place);
-    }
+      -- a marked half-edge begins no ring
+      pub held-marked : (seen′ : List Bool) (halves′ : List ℕ) (rows′ : RingRows) (count′ at′ : ℕ) → unmarked marks k ≡ false
+          → seen′ ≡ seen → halves′ ≡ halves → rows′ ≡ rows → count′ ≡ count → at′ ≡ at → Held seen′ halves′ rows′ count′ at′ (k + 1)
+      held-marked seen′ halves′ rows′ count′ at′ a = held-same seen′ halves′ rows′ count′ at′ (sweep-inactive (entryOf next) (2 * edges) (unmarked marks) k a)
 
-    -- a marked half-edge begins no ring
-    pub held-marked : (seen seen′ : List Bool) (rows first size rows′ first′ size′ : List ℕ) (count at count′ at′ k : ℕ) → k < 2 * edges → unmarked marks k ≡ false
-        → seen′ ≡ seen → rows′ ≡ rows → first′ ≡ first → size′ ≡ size → count′ ≡ count → at′ ≡ at
-        → Held seen rows first size count at k → Held seen′ rows′ first′ size′ count′ at′ (k + 1)
-    held-marked seen seen′ rows first size rows′ first′ size′ count at count′ at′ k h a =
-        held-same seen seen′ rows first size rows′ first′ size′ count at count′ at′ k h (sweep-inactive (entryOf next) (2 * edges) (unmarked marks) k a)
-
-    -- nor does one that was seen
-    pub held-has : (seen seen′ : List Bool) (rows first size rows′ first′ size′ : List ℕ) (count at count′ at′ k : ℕ) → k < 2 * edges → unmarked marks k ≡ true → getD seen k false ≡ true
-        → seen′ ≡ seen → rows′ ≡ rows → first′ ≡ first → size′ ≡ size → count′ ≡ count → at′ ≡ at
-        → Held seen rows first size count at k → Held seen′ rows′ first′ size′ count′ at′ (k + 1)
-    held-has seen seen′ rows first size rows′ first′ size′ count at count′ at′ k h a e e₁ e₂ e₃ e₄ e₅ e₆ r =
-        held-same seen seen′ rows first size rows′ first′ size′ count at count′ at′ k h
-        (sweep-has (entryOf next) (2 * edges) (unmarked marks) k a (sym (held-at seen rows first size count at k h r) ∙ e)) e₁ e₂ e₃ e₄ e₅ e₆ r
+      -- nor does one that was seen
+      pub held-has : (seen′ : List Bool) (halves′ : List ℕ) (rows′ : RingRows) (count′ at′ : ℕ) → unmarked marks k ≡ true → getD seen k false ≡ true
+          → seen′ ≡ seen → halves′ ≡ halves → rows′ ≡ rows → count′ ≡ count → at′ ≡ at → Held seen′ halves′ rows′ count′ at′ (k + 1)
+      held-has seen′ halves′ rows′ count′ at′ a e =
+          held-same seen′ halves′ rows′ count′ at′ (sweep-has (entryOf next) (2 * edges) (unmarked marks) k a (sym (held-at seen halves rows count at k h r) ∙ e))
 
     -- at the end the rings are listed
-    pub held-all : (seen : List Bool) (rows first size : List ℕ) (count at k : ℕ) → k ≡ 2 * edges → Held seen rows first size count at k
-        → Listed (tableRings edges next marks) rows₀ first₀ size₀ rows first size count
-    held-all seen rows first size count at k e r =
+    pub held-all : (seen : List Bool) (halves : List ℕ) (rows : RingRows) (count at k : ℕ) → k ≡ 2 * edges → Held seen halves rows count at k
+        → Listed (tableRings edges next marks) source xs ys halves₀ rows₀ halves rows count
+    held-all seen halves rows count at k e r =
         let all : after k .found ≡ tableRings edges next marks = ap (λ i. after i .found) e ∙ sweep-cycles (entryOf next) (2 * edges) (unmarked marks) t in
-        record {
-          rows = r .listed ∙ ap (λ z. over (flatten z) rows₀) all;
-          places = r .places ∙ ap (λ z. over (firstPlaces 0 z) first₀) all;
-          sizes = r .sizes ∙ ap (λ z. over (map sizeOf z) size₀) all;
-          number = r .number ∙ ap (λ z. length z) all;
-        }
+        subst (λ rs. Listed rs source xs ys halves₀ rows₀ halves rows count) all (r .listed)
 
 -- ---- for callers: after splitting
 

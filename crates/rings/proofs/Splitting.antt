@@ -1,5 +1,5 @@
 -- Going through a star twice writes the successors after splitting.
-use Prim.Native.Nat.{ℕ, suc, _+_, _*_, _<_, _≤_}
+use Prim.Native.Nat.{ℕ, _+_, _*_, _<_, _≤_}
 use native.Mathlib.Omega.{arith}
 use mathlib.Core.Path.{_≡_, refl, sym, ap, ap₂, _∙_, subst}
 use mathlib.Core.Bool.{Bool}
@@ -8,9 +8,10 @@ use lib.Dec.{eqb}
 use lib.ListN.{length, getD, set, take, length-set, length-map}
 use lib.Seq.{getD-set-same, getD-set-other}
 use borrow.Author.Tests.{eq-eqb, ne-eqb}
-use Rattle.lists.specs.Lists.{keep, pick, countOf, In}
+use Rattle.lists.specs.Lists.{pick, countOf, In}
 use Rattle.lists.proofs.Counts.{by-test, by-eq, bit-same, in-head, in-tail, below-le}
 use Rattle.lists.proofs.Members.{in-other}
+use Rattle.lists.proofs.Passing.{pick-agree}
 use Rattle.lists.proofs.Rounds.{headOf, from}
 use Rattle.rules.specs.HalfEdge.{twin}
 use Rattle.rules.specs.Cycles.{Arrangement, halves, activeStar, successor, label, cycle, starts, isStart}
@@ -24,15 +25,12 @@ use Rattle.rules.proofs.Splitting.{split-first, successor-alike}
 use Rattle.rules.proofs.LabelLaws.{label-inactive, label-le}
 use Rattle.rules.proofs.Rings.{label-is, labels, split-successor-is, successor-permutes}
 use Rattle.stars.specs.Grouped.{Grouped}
-use Rattle.rings.specs.Groups.{unmarked, entryOf, groupOf}
+use Rattle.stars.proofs.Groups.{group-active, groups-within}
+use Rattle.stars.specs.Groups.{unmarked, groupOf}
+use Rattle.rings.specs.Listing.{entryOf}
 use Rattle.rings.specs.Splits.{noted, relinked, Splittable, Split}
 
 -- ---- lists
-
--- tests that agree on the members pick the same
-pick-agree : (p q : ℕ → Bool) (l : List ℕ) → ((x : ℕ) → In x l → p x ≡ q x) → pick p l ≡ pick q l
-pick-agree p q [] h = refl
-pick-agree p q (x ∷ l) h = ap₂ (λ b r. keep b x r) (h x (in-head x x l refl)) (pick-agree p q l (λ y m. h y (in-tail y x l m)))
 
 -- the first of a list with a member
 head-any : (a b x : ℕ) (l : List ℕ) → In x l → headOf a l ≡ headOf b l
@@ -118,11 +116,6 @@ module _ (nodes edges : ℕ) (source : List ℕ) (marks : List Bool) (star offse
   abbrev held : Arrangement
   held = arrangementIn nodes edges source marks star
 
-  -- what is picked of a node's group is its active star
-  group-active : (n : ℕ) → n < nodes → pick (unmarked marks) (groupOf offsets grouped n) ≡ activeStar held n
-  unfolding activeStar
-  group-active n l = ap (pick (unmarked marks)) (groups .stars n l)
-
   -- a half-edge that ends at node n gets its successor there
   split-here : (upcoming next : List ℕ) → ((h : ℕ) → h < 2 * edges → getD table h 0 < length upcoming) → 2 * edges ≤ length next
       → (h : ℕ) → Live (halves held) (held .active) h → let s = activeStar held (held .origin (twin h)) in
@@ -163,7 +156,7 @@ module _ (nodes edges : ℕ) (offsets grouped : List ℕ) (marks : List Bool) (t
       let g = arrangementIn nodes edges source marks star in
       let lab = entryOf table in
       let e₁ : next′ ≡ relinked lab (noted lab (activeStar g n) upcoming) (activeStar g n) next =
-      e ∙ ap (λ s. relinked lab (noted lab s upcoming) s next) (group-active nodes edges source marks star offsets grouped table groups sane same n l) in
+      e ∙ ap (λ s. relinked lab (noted lab s upcoming) s next) (group-active nodes edges source marks star offsets grouped groups sane n l) in
       ap (λ z. getD z h 0) e₁ ∙ by-eq (g .origin (twin h)) n
       (λ d. subst (λ z. getD (relinked lab (noted lab (activeStar g z) upcoming) (activeStar g z) next) h 0 ≡ splitSuccessor g h) d
       (split-here nodes edges source marks star offsets grouped table groups sane same upcoming next low room h a))
@@ -199,14 +192,7 @@ pub splittable : (l : Limits) (nodes edges : ℕ) (source : List ℕ) (marks : L
     → Splittable l nodes edges offsets grouped marks table next
 splittable l nodes edges source marks star offsets grouped table next few groups sane same a b c = record {
   few = few;
-  groups = record {
-    room = groups .room;
-    each = λ n k. record {
-      rises = groups .rises n k;
-      ends = groups .ends (suc n) k;
-      low = λ h m. sane .only n h k (subst (λ s. In h s) (groups .stars n k) m) .0;
-    };
-  };
+  groups = groups-within nodes edges source marks star offsets grouped groups sane;
   inMarks = a;
   inLabels = b;
   inNext = c;

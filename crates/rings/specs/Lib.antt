@@ -1,6 +1,5 @@
--- What splitting, walking, summing and the sides of rings ask and leave, over the tables.
-pub mod Groups
+-- What splitting, walking, tallies and the sides of rings ask and leave, over the tables.
 pub mod Splits
-pub mod Listing
 pub mod Tallies
 pub mod Sides
+pub mod Listing

@@ -1,15 +1,25 @@
 -- The rings of a table of successors, and the lists that a walk writes.
-use Prim.Native.Nat.{ℕ, _+_, _*_, _≤_}
+use Prim.Native.Nat.{ℕ, _+_, _*_, _<_, _≤_}
 use mathlib.Core.Path.{_≡_}
 use mathlib.Core.Bool.{Bool, true, false}
 use mathlib.Core.List.{List, [], _∷_, map}
 use lib.ListN.{length, getD, take, drop, set, replicate}
 use lib.Seq.{sets}
+use lib.IntN.{negsuc}
+use lib.Ieee.{Float, fin, binary64, mul}
 use Rattle.lists.specs.Lists.{flatten, over}
 use Rattle.rules.specs.Cycles.{cycle, cycles}
 use Rattle.rules.specs.Sane.{Live, Permutes}
 use Rattle.rules.specs.Limits.{Limits}
-use Rattle.rings.specs.Groups.{unmarked, entryOf}
+use Rattle.rules.specs.Ringing.{sideNumber, sideArea}
+use Rattle.stars.specs.Groups.{unmarked}
+use Rattle.rings.specs.Tallies.{tallyOf, Sited, Takable}
+use Rattle.rings.specs.Sides.{sideOf, signSide, numberIn, shownIn}
+use Rattle.rings.specs.declared.tally.Tally.{Tally}
+
+-- the entries of a table as a function
+abbrev pub entryOf : List ℕ → ℕ → ℕ
+entryOf table h = getD table h 0
 
 -- every ring once, by its lowest half-edge and beginning with it
 abbrev pub tableRings : ℕ → List ℕ → List Bool → List (List ℕ)
@@ -28,8 +38,30 @@ sizeOf r = length r
 abbrev pub ringAt : List ℕ → List ℕ → List ℕ → ℕ → List ℕ
 ringAt halfEdges first size i = take (getD size i 0) (drop (getD first i 0) halfEdges)
 
--- what a walk from `start` asks: the table permutes the active half-edges below some count, `start` is one of them, and there is room for its ring
-pub record Walkable (next : List ℕ) (seen : List Bool) (halfEdges : List ℕ) (start at : ℕ) : Type 0 where
+-- the four lists with an entry for each ring
+pub record RingRows : Type 0 where
+  pub first : List ℕ
+  pub size : List ℕ
+  pub side : List ℕ
+  pub area : List Float
+
+-- the lists of the code
+abbrev pub rowsOf : List ℕ → List ℕ → List ℕ → List Float → RingRows
+rowsOf first size side area = record { first = first; size = size; side = side; area = area }
+
+-- the row of a ring put at place i: where the ring begins, and by its tally its length, side and area
+abbrev pub rowPut : ℕ → ℕ → Tally → RingRows → RingRows
+rowPut i at t rows =
+    let side = sideOf (signSide (mul binary64 (t .sum) (fin false 1 (negsuc 0)))) in
+    record {
+      first = set (rows .first) i at;
+      size = set (rows .size) i (t .count);
+      side = set (rows .side) i (sideNumber side);
+      area = set (rows .area) i (sideArea side);
+    }
+
+-- what a walk from `start` asks: the table permutes the active half-edges below some count, `start` is one of them, there is room for its ring, and half-edges start at nodes
+pub record Walkable (next source : List ℕ) (xs ys : List Float) (seen : List Bool) (halfEdges : List ℕ) (start at : ℕ) : Type 0 where
   pub count : ℕ
   pub active : ℕ → Bool
   pub permutes : Permutes (entryOf next) count active
@@ -38,35 +70,45 @@ pub record Walkable (next : List ℕ) (seen : List Bool) (halfEdges : List ℕ) 
   pub inSeen : count ≤ length seen
   pub room : at + length (cycle (entryOf next) count start) ≤ length halfEdges
   pub small : at + length (cycle (entryOf next) count start) ≤ 65535
+  pub takable : (h : ℕ) → h < count → Takable source xs ys h
 
 -- a test that was put at each of the listed places
 abbrev pub stampedAt : List ℕ → Bool → List Bool → List Bool
 stampedAt [] a seen = seen
 stampedAt (h ∷ hs) a seen = stampedAt hs a (set seen h a)
 
--- what it leaves: the ring stands from `at` on, its half-edges are seen, and the answer is the place after it
-pub record WalkedRing (f : ℕ → ℕ) (n start at : ℕ) (seen₀ : List Bool) (halfEdges₀ : List ℕ) (seen : List Bool) (halfEdges : List ℕ) (place : ℕ) : Type 0 where
+-- what it leaves: the ring stands from `at` on, its half-edges are seen, and the answer is its tally
+pub record WalkedRing (f : ℕ → ℕ) (n start at : ℕ) (source : List ℕ) (xs ys : List Float) (seen₀ : List Bool) (halfEdges₀ : List ℕ) (seen : List Bool) (halfEdges : List ℕ) (tally : Tally) : Type 0 where
   pub marks : seen ≡ stampedAt (cycle f n start) true seen₀
   pub lists : halfEdges ≡ sets halfEdges₀ at (cycle f n start)
-  pub ends : place ≡ at + length (cycle f n start)
+  pub tallied : tally ≡ tallyOf source xs ys (cycle f n start)
 
 -- nothing is seen at first, of at least n
 abbrev pub Unseen : ℕ → List Bool → Type 0
 Unseen n seen = (n ≤ length seen) × (seen ≡ replicate (length seen) false)
 
--- what listing the rings asks: the table permutes the active half-edges, and tables and lists are long enough
-pub record Listable (l : Limits) (edges : ℕ) (next : List ℕ) (marks : List Bool) (halfEdges first size : List ℕ) : Type 0 where
+-- the lists have at least n entries
+pub record RowsRoom (n : ℕ) (rows : RingRows) : Type 0 where
+  pub inFirst : n ≤ length (rows .first)
+  pub inSize : n ≤ length (rows .size)
+  pub inSide : n ≤ length (rows .side)
+  pub inArea : n ≤ length (rows .area)
+
+-- what listing the rings asks: the table permutes the active half-edges, these start at nodes, and tables and lists are long enough
+pub record Listable (l : Limits) (edges : ℕ) (next source : List ℕ) (marks : List Bool) (xs ys : List Float) (halfEdges : List ℕ) (rows : RingRows) : Type 0 where
   pub permutes : Permutes (entryOf next) (2 * edges) (unmarked marks)
   pub few : edges ≤ l .edges
+  pub sited : Sited edges source xs ys
   pub inNext : 2 * edges ≤ length next
   pub inMarks : 2 * edges ≤ length marks
   pub inHalfEdges : 2 * edges ≤ length halfEdges
-  pub inFirst : 2 * edges ≤ length first
-  pub inSize : 2 * edges ≤ length size
+  pub inRows : RowsRoom (2 * edges) rows
 
--- what it leaves: the half-edges ring by ring, and of each ring its first place and its length
-pub record Listed (rings : List (List ℕ)) (halfEdges₀ first₀ size₀ halfEdges first size : List ℕ) (count : ℕ) : Type 0 where
-  pub rows : halfEdges ≡ over (flatten rings) halfEdges₀
-  pub places : first ≡ over (firstPlaces 0 rings) first₀
-  pub sizes : size ≡ over (map sizeOf rings) size₀
+-- what it leaves: the half-edges ring by ring, and of each ring its first place, its length, its side and its area
+pub record Listed (rings : List (List ℕ)) (source : List ℕ) (xs ys : List Float) (halfEdges₀ : List ℕ) (rows₀ : RingRows) (halfEdges : List ℕ) (rows : RingRows) (count : ℕ) : Type 0 where
+  pub halves : halfEdges ≡ over (flatten rings) halfEdges₀
+  pub places : rows .first ≡ over (firstPlaces 0 rings) (rows₀ .first)
+  pub sizes : rows .size ≡ over (map sizeOf rings) (rows₀ .size)
+  pub sides : rows .side ≡ over (map (numberIn source xs ys) rings) (rows₀ .side)
+  pub areas : rows .area ≡ over (map (shownIn source xs ys) rings) (rows₀ .area)
   pub number : count ≡ length rings

@@ -11,7 +11,7 @@ use Rattle.rules.specs.Sane.{Sane, Live}
 use Rattle.rules.specs.Limits.{Limits}
 use Rattle.rules.specs.State.{arrangementIn}
 use Rattle.stars.specs.Grouped.{Grouped}
-use Rattle.rings.specs.Groups.{PartWithin, GroupsWithin}
+use Rattle.stars.specs.Groups.{PartWithin, GroupsWithin}
 
 -- each half-edge noted under its label, from the last to the first: the first one of a label stays
 abbrev pub noted : (ℕ → ℕ) → List ℕ → List ℕ → List ℕ

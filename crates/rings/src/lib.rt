@@ -7,12 +7,9 @@ mod tally;
 mod walk;
 
 pub use side::RingSide;
-pub use side::ring_side;
 pub use side::side_area;
 pub use side::side_number;
 pub use side::side_of;
-pub use side::write_sides;
 pub use split::split_rings;
 pub use tally::Tally;
-pub use tally::ring_sum;
 pub use walk::walk_rings;

@@ -2,27 +2,13 @@
 ghost use mathlib.Core.Path.{_≡_};
 ghost use Prim.Native.Nat.{_<_};
 ghost use lib.ListN.{length, getD};
-ghost use Rattle.rings.specs.Groups.{unmarked};
-
-// A number of a table as an index.
-pub fn wide(n: u16) -> usize
-    ensures { λ r. ⌜ r ≡ n ⌝ }
-{
-    n as usize
-}
-
-// A half-edge is active while it is not marked.
-pub fn is_active(dir_edges_marked: &[bool], h: u16) -> bool
-    requires { ⌜ h < length (now «dir_edges_marked») ⌝ }
-    ensures { λ r. ⌜ r ≡ unmarked (now («dir_edges_marked» .entry)) h ⌝ }
-{
-    !dir_edges_marked[wide(h)]
-}
+use tables::DirEdgeId;
+use tables::wide;
 
 // What a table holds for a half-edge, as an index.
-pub fn index_at(table: &[u16], h: u16) -> usize
-    requires { ⌜ h < length (now table) ⌝ }
-    ensures { λ r. ⌜ r ≡ getD (now (table .entry)) h 0 ⌝ }
+pub fn index_at(table: &[u16], half: DirEdgeId) -> usize
+    requires { ⌜ half .0 < length (now table) ⌝ }
+    ensures { λ r. ⌜ r ≡ getD (now (table .entry)) (half .0) 0 ⌝ }
 {
-    wide(table[wide(h)])
+    wide(table[wide(half.0)])
 }

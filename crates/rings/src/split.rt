@@ -13,11 +13,19 @@ ghost use lib.ListN.{length, getD};
 ghost use Rattle.lists.specs.Lists.{In, pick};
 ghost use Rattle.rules.specs.HalfEdge.{twin};
 ghost use Rattle.rules.specs.Limits.{limits};
-ghost use Rattle.rings.specs.Groups.{unmarked, entryOf, part};
+ghost use Rattle.stars.specs.Groups.{unmarked, part};
+ghost use Rattle.rings.specs.Listing.{entryOf};
 ghost use Rattle.rings.specs.Splits.{noted, relinked, StarWithin, Splittable, Split};
 use super::reads::index_at;
-use super::reads::is_active;
-use super::reads::wide;
+use stars::is_active;
+use tables::DirEdgeId;
+use tables::MAX_HALF_EDGES;
+use tables::twin_of;
+use tables::wide;
+
+// Labels are counted from 1, and there are no more than half-edges: one place for each, and one for
+// half-edges without a label.
+const LABEL_PLACES: usize = MAX_HALF_EDGES + 1;
 
 // Notes the active half-edges of a star under their labels, from the last place to the first.
 fn note_star(
@@ -35,8 +43,8 @@ fn note_star(
     while from < i {
         i -= 1;
         let h = grouped[i];
-        if is_active(dir_edges_marked, h) {
-            upcoming[index_at(labels, h)] = h;
+        if is_active(dir_edges_marked, DirEdgeId(h)) {
+            upcoming[index_at(labels, DirEdgeId(h))] = h;
         }
     }
 }
@@ -60,10 +68,10 @@ fn relink_star(
     while from < i {
         i -= 1;
         let h = grouped[i];
-        if is_active(dir_edges_marked, h) {
-            let incoming = rules::twin_of(h);
-            upcoming[index_at(labels, h)] = h;
-            next[wide(incoming)] = upcoming[index_at(labels, incoming)];
+        if is_active(dir_edges_marked, DirEdgeId(h)) {
+            let incoming = twin_of(DirEdgeId(h));
+            upcoming[index_at(labels, DirEdgeId(h))] = h;
+            next[wide(incoming.0)] = upcoming[index_at(labels, incoming)];
         }
     }
 }
@@ -105,7 +113,7 @@ pub fn split_rings(
     requires { ⌜ Splittable limits (graph .«node_count») (graph .«edge_count») (now offsets) (now grouped) (now «dir_edges_marked») (now labels) (now next) ⌝ }
     ensures { λ _. ⌜ Split (graph .«node_count») (graph .«edge_count») (now (offsets .entry)) (now (grouped .entry)) (now («dir_edges_marked» .entry)) (now (labels .entry)) (now (next .exit)) ⌝ }
 {
-    let mut upcoming = [0u16; 2049];
+    let mut upcoming = [0u16; LABEL_PLACES];
     split_stars(
         graph,
         offsets,

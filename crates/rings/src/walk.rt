@@ -1,59 +1,118 @@
-// The rings: walks along the successors, from the lowest half-edge of each.
+// The rings: walks along the successors, from the lowest half-edge of each. One walk around a ring
+// lists it and carries its tally, so that its length, its side and its area are known where it ends.
 ghost use mathlib.Core.Path.{_≡_};
-ghost use mathlib.Core.Bool.{Bool, true};
-ghost use Prim.Native.Nat.{ℕ, _+_, _*_, _≤_};
-ghost use lib.ListN.{length};
+ghost use mathlib.Core.Bool.{Bool};
+ghost use Prim.Native.Nat.{ℕ, _+_, _*_};
 ghost use Rattle.rules.specs.Limits.{limits};
 ghost use Rattle.rules.specs.Sane.{Live, Permutes};
-ghost use Rattle.rings.specs.Groups.{entryOf};
-ghost use Rattle.rings.specs.Listing.{tableRings, Walkable, WalkedRing, Unseen, Listable, Listed};
-use super::reads::is_active;
-use super::reads::wide;
+ghost use Rattle.rings.specs.Listing.{entryOf, tableRings, rowsOf, rowPut, RowsRoom, Walkable, WalkedRing, Unseen, Listable, Listed};
+use super::side::side_area;
+use super::side::side_number;
+use super::side::side_of;
+use super::tally::Tally;
+use stars::is_active;
+use tables::DirEdgeId;
+use tables::MAX_HALF_EDGES;
+use tables::wide;
 
-// Lists the ring of `start` from place `at` on, marks it as seen, and returns the place after it.
-fn walk_ring(next: &[u16], start: u16, seen: &mut [bool], half_edges: &mut [u16], at: u16) -> u16
-    requires { ⌜ Walkable (now next) (now seen) (now «half_edges») start at ⌝ }
-    ensures { λ r. ⌜ ((n : ℕ) (active : ℕ → Bool) → Permutes (entryOf (now (next .entry))) n active → Live n active start → WalkedRing (entryOf (now (next .entry))) n start at (now (seen .entry)) (now («half_edges» .entry)) (now (seen .exit)) (now («half_edges» .exit)) r) ⌝ }
+// Lists the ring of `start` from place `at` on and marks it as seen; returns its tally.
+fn walk_ring(
+    start: DirEdgeId,
+    next: &[u16],
+    dir_edges_src: &[u16],
+    nodes_x: &[f64],
+    nodes_y: &[f64],
+    seen: &mut [bool],
+    half_edges: &mut [u16],
+    at: u16,
+) -> Tally
+    requires { ⌜ Walkable (now next) (now «dir_edges_src») (now «nodes_x») (now «nodes_y») (now seen) (now «half_edges») (start .0) at ⌝ }
+    ensures { λ r. ⌜ ((n : ℕ) (active : ℕ → Bool) → Permutes (entryOf (now (next .entry))) n active → Live n active (start .0)
+        → WalkedRing (entryOf (now (next .entry))) n (start .0) at (now («dir_edges_src» .entry)) (now («nodes_x» .entry)) (now («nodes_y» .entry)) (now (seen .entry)) (now («half_edges» .entry)) (now (seen .exit)) (now («half_edges» .exit)) r) ⌝ }
 {
-    let mut place = at;
-    let mut cur = start;
+    let mut tally = Tally { count: 0, sum: 0.0 };
+    let mut cur = start.0;
     loop {
         seen[wide(cur)] = true;
-        half_edges[wide(place)] = cur;
-        place += 1;
+        half_edges[wide(at + tally.count)] = cur;
+        tally = tally.take(DirEdgeId(cur), dir_edges_src, nodes_x, nodes_y);
         cur = next[wide(cur)];
-        if cur == start {
+        if cur == start.0 {
             break;
         }
     }
-    place
+    tally
+}
+
+// Writes the row of ring i: its first place, its length, its side and its area, half the sum.
+fn write_row(
+    i: u16,
+    first: u16,
+    tally: Tally,
+    ring_first: &mut [u16],
+    ring_length: &mut [u16],
+    ring_side: &mut [u8],
+    ring_area: &mut [f64],
+)
+    requires { ⌜ RowsRoom (i + 1) (rowsOf (now «ring_first») (now «ring_length») (now «ring_side») (now «ring_area»)) ⌝ }
+    ensures { λ _. ⌜ rowsOf (now («ring_first» .exit)) (now («ring_length» .exit)) (now («ring_side» .exit)) (now («ring_area» .exit)) ≡ rowPut i first tally (rowsOf (now («ring_first» .entry)) (now («ring_length» .entry)) (now («ring_side» .entry)) (now («ring_area» .entry))) ⌝ }
+{
+    let ring = wide(i);
+    let side = side_of(tally.sum * 0.5);
+    ring_first[ring] = first;
+    ring_length[ring] = tally.count;
+    ring_side[ring] = side_number(side);
+    ring_area[ring] = side_area(side);
 }
 
 // Lists the rings by lowest half-edge, each beginning with it; returns how many there are.
 fn walk_unseen(
     edges: u16,
     next: &[u16],
+    dir_edges_src: &[u16],
     dir_edges_marked: &[bool],
+    nodes_x: &[f64],
+    nodes_y: &[f64],
     seen: &mut [bool],
     half_edges: &mut [u16],
     ring_first: &mut [u16],
     ring_length: &mut [u16],
+    ring_side: &mut [u8],
+    ring_area: &mut [f64],
 ) -> u16
-    requires { ⌜ Listable limits edges (now next) (now «dir_edges_marked») (now «half_edges») (now «ring_first») (now «ring_length») ⌝ }
+    requires { ⌜ Listable limits edges (now next) (now «dir_edges_src») (now «dir_edges_marked») (now «nodes_x») (now «nodes_y») (now «half_edges») (rowsOf (now «ring_first») (now «ring_length») (now «ring_side») (now «ring_area»)) ⌝ }
     requires { ⌜ Unseen (2 * edges) (now seen) ⌝ }
-    ensures { λ r. ⌜ Listed (tableRings edges (now (next .entry)) (now («dir_edges_marked» .entry))) (now («half_edges» .entry)) (now («ring_first» .entry)) (now («ring_length» .entry)) (now («half_edges» .exit)) (now («ring_first» .exit)) (now («ring_length» .exit)) r ⌝ }
+    ensures { λ r. ⌜ Listed (tableRings edges (now (next .entry)) (now («dir_edges_marked» .entry))) (now («dir_edges_src» .entry)) (now («nodes_x» .entry)) (now («nodes_y» .entry)) (now («half_edges» .entry)) (rowsOf (now («ring_first» .entry)) (now («ring_length» .entry)) (now («ring_side» .entry)) (now («ring_area» .entry)))
+        (now («half_edges» .exit)) (rowsOf (now («ring_first» .exit)) (now («ring_length» .exit)) (now («ring_side» .exit)) (now («ring_area» .exit))) r ⌝ }
 {
     let mut count: u16 = 0;
     let mut at: u16 = 0;
     let mut k: u16 = 0;
     while k < 2 * edges {
-        if is_active(dir_edges_marked, k) {
+        if is_active(dir_edges_marked, DirEdgeId(k)) {
             if !seen[wide(k)] {
-                let end = walk_ring(next, k, seen, half_edges, at);
-                ring_first[wide(count)] = at;
-                ring_length[wide(count)] = end - at;
+                let start = DirEdgeId(k);
+                let tally = walk_ring(
+                    start,
+                    next,
+                    dir_edges_src,
+                    nodes_x,
+                    nodes_y,
+                    seen,
+                    half_edges,
+                    at,
+                );
+                write_row(
+                    count,
+                    at,
+                    tally,
+                    ring_first,
+                    ring_length,
+                    ring_side,
+                    ring_area,
+                );
                 count += 1;
-                at = end;
+                at += tally.count;
             }
         }
         k += 1;
@@ -65,22 +124,33 @@ fn walk_unseen(
 pub fn walk_rings(
     edges: u16,
     next: &[u16],
+    dir_edges_src: &[u16],
     dir_edges_marked: &[bool],
+    nodes_x: &[f64],
+    nodes_y: &[f64],
     half_edges: &mut [u16],
     ring_first: &mut [u16],
     ring_length: &mut [u16],
+    ring_side: &mut [u8],
+    ring_area: &mut [f64],
 ) -> u16
-    requires { ⌜ Listable limits edges (now next) (now «dir_edges_marked») (now «half_edges») (now «ring_first») (now «ring_length») ⌝ }
-    ensures { λ r. ⌜ Listed (tableRings edges (now (next .entry)) (now («dir_edges_marked» .entry))) (now («half_edges» .entry)) (now («ring_first» .entry)) (now («ring_length» .entry)) (now («half_edges» .exit)) (now («ring_first» .exit)) (now («ring_length» .exit)) r ⌝ }
+    requires { ⌜ Listable limits edges (now next) (now «dir_edges_src») (now «dir_edges_marked») (now «nodes_x») (now «nodes_y») (now «half_edges») (rowsOf (now «ring_first») (now «ring_length») (now «ring_side») (now «ring_area»)) ⌝ }
+    ensures { λ r. ⌜ Listed (tableRings edges (now (next .entry)) (now («dir_edges_marked» .entry))) (now («dir_edges_src» .entry)) (now («nodes_x» .entry)) (now («nodes_y» .entry)) (now («half_edges» .entry)) (rowsOf (now («ring_first» .entry)) (now («ring_length» .entry)) (now («ring_side» .entry)) (now («ring_area» .entry)))
+        (now («half_edges» .exit)) (rowsOf (now («ring_first» .exit)) (now («ring_length» .exit)) (now («ring_side» .exit)) (now («ring_area» .exit))) r ⌝ }
 {
-    let mut seen = [false; 2048];
+    let mut seen = [false; MAX_HALF_EDGES];
     walk_unseen(
         edges,
         next,
+        dir_edges_src,
         dir_edges_marked,
+        nodes_x,
+        nodes_y,
         &mut seen,
         half_edges,
         ring_first,
         ring_length,
+        ring_side,
+        ring_area,
     )
 }

@@ -2,7 +2,7 @@
 use borrow.Author.Needs.{needs}
 use Prim.Native.Nat.{ℕ, _*_, _≤_}
 use native.Mathlib.Omega.{arith}
-use mathlib.Core.Path.{_≡_, refl, sym, ap, subst, _∙_}
+use mathlib.Core.Path.{_≡_, sym, ap, subst, _∙_}
 use mathlib.Core.Bool.{Bool, true}
 use mathlib.Core.List.{List, map}
 use lib.Dec.{lit<}
@@ -22,11 +22,11 @@ use Rattle.tables.specs.Tables.{stateOf}
 use Rattle.stars.specs.Grouped.{Grouped}
 use Rattle.stars.proofs.Sound.{sound-sortable}
 use Rattle.cycles.specs.Census.{censusOf}
-use Rattle.rings.specs.Sides.{sideOf, sideIn}
-use Rattle.rings.proofs.Meaning.{rings-read, places-replied, sizes-replied, sides-replied}
+use Rattle.rings.specs.Listing.{RingRows, rowsOf}
+use Rattle.rings.proofs.Meaning.{places-replied, sizes-replied, sides-replied}
 use Rattle.faces.specs.Numbers.{ringsAt, faceNumbers, comparisonsAt, Numberable}
 use Rattle.extracting.specs.Listing.{RingsListed}
-use Rattle.extracting.proofs.Numbering.{rings-few, flat-few, comparisons-fit, sides-asked, faces-replied, comparisons-replied, numberable}
+use Rattle.extracting.proofs.Numbering.{rings-few, flat-few, comparisons-fit, faces-replied, comparisons-replied, numberable}
 use Rattle.extracting.proofs.Outcome.{arrangement-is, held-sane, total-is, rings-many}
 use Rattle.extracting.proofs.extract_grouped.Statement.{statement}
 use Rattle.extracting.proofs.extract_grouped.Tie as tie
@@ -48,29 +48,30 @@ own s = let p = s .pre in held s (p .nodesZ) (p .degree) (p .nodesMarked) (p .li
 
 -- the start, from the listing
 abbrev start : tie.After-list-rings → tie.Start
-start w = w .before .before .before .before .before .before .before .before .before .before .before .before .before .before .before .before
+start w = w .before .before .before .before .before .before .before .before .before .before .before .before .before .before .before .before .before .before
 
 -- the lists that were filled
-abbrev rows : tie.After-list-rings → List ℕ
-rows w = w .list-rings .last .1 .1 .1 .1 .1 .1 .1 .0
+abbrev halves : tie.After-list-rings → List ℕ
+halves w = w .list-rings .last .1 .1 .1 .1 .1 .1 .1 .0
 
-abbrev first : tie.After-list-rings → List ℕ
-first w = w .list-rings .last .1 .1 .1 .1 .1 .1 .1 .1 .0
+abbrev rows : tie.After-list-rings → RingRows
+rows w = let o = w .list-rings .last .1 .1 .1 .1 .1 .1 .1 .1 in rowsOf (o .0) (o .1 .0) (o .1 .1 .0) (o .1 .1 .1 .0)
 
-abbrev size : tie.After-list-rings → List ℕ
-size w = w .list-rings .last .1 .1 .1 .1 .1 .1 .1 .1 .1 .0
+-- the lists as they were lent
+abbrev lent : tie.Start → RingRows
+lent s = rowsOf (s .args .ring-first .now) (s .args .ring-length .now) (s .args .ring-side .now) (s .args .ring-area .now)
 
 -- they hold the rings
 got : (w : tie.After-list-rings) (zs : List Float) (ds : List ℕ) (nm : List Bool) (lines : List Float) (ids target star : List ℕ) → sound limits (held (start w) zs ds nm lines ids target star) ≡ true → Stars (start w) star
-    → RingsListed (arrangement (held (start w) zs ds nm lines ids target star)) (start w .args .half-edges .now) (start w .args .ring-first .now) (start w .args .ring-length .now) (rows w) (first w) (size w) (w .list-rings .result)
+    → RingsListed (arrangement (held (start w) zs ds nm lines ids target star)) (start w .args .dir-edges-src .now) (start w .args .nodes-x .now) (start w .args .nodes-y .now) (start w .args .half-edges .now) (lent (start w)) (halves w) (rows w) (w .list-rings .result)
 got w zs ds nm lines ids target star sense gs =
     let s = start w in
-    subst (λ g. RingsListed g (s .args .half-edges .now) (s .args .ring-first .now) (s .args .ring-length .now) (rows w) (first w) (size w) (w .list-rings .result))
+    subst (λ g. RingsListed g (s .args .dir-edges-src .now) (s .args .nodes-x .now) (s .args .nodes-y .now) (s .args .half-edges .now) (lent s) (halves w) (rows w) (w .list-rings .result))
     (arrangement-is (held s zs ds nm lines ids target star)) (w .list-rings .ensures star gs (held-sane limits (held s zs ds nm lines ids target star) sense))
 
 -- the listing, from where the total is known
 abbrev listing : tie.After-wide → tie.After-list-rings
-listing y = y .before .before .before .before .before .before .before .before .before .before .before .before .before .before .before .before .before .before
+listing y = y .before .before .before .before .before .before .before .before .before .before .before .before
 
 -- the total is that of the rings
 whole : (y : tie.After-wide) (zs : List Float) (ds : List ℕ) (nm : List Bool) (lines : List Float) (ids target star : List ℕ) → sound limits (held (start (listing y)) zs ds nm lines ids target star) ≡ true → Stars (start (listing y)) star
@@ -84,7 +85,7 @@ abbrev sized : tie.After-number-faces → tie.After-wide
 sized x = x .before .before .before .before .before .before .before
 
 -- and within the list
-inside : (y : tie.After-wide) → 2 * y .wide .result ≤ length (rows (listing y))
+inside : (y : tie.After-wide) → 2 * y .wide .result ≤ length (halves (listing y))
 inside y =
     let w = listing y in
     let p = start w .pre in
@@ -94,7 +95,7 @@ inside y =
 
 list-rings-requires : tie.Need-list-rings-requires
 list-rings-requires c κs =
-    let s = c .before .before .before .before .before .before .before .before .before .before .before .before .before .before .before in
+    let s = c .before .before .before .before .before .before .before .before .before .before .before .before .before .before .before .before .before in
     let p = s .pre in
     let k = own s in
     let r = is-roomy limits k (p .roomed) in
@@ -109,16 +110,8 @@ list-rings-requires c κs =
         inMarks = omega (arith, ok .edges, r .halfMark);
       },
       sound-sortable limits k (p .roomed) (p .sense) .located,
-      record { inHalfEdges = p .long .inHalfEdges; inFirst = p .long .inFirst; inSize = p .long .inSize },
+      record { inHalfEdges = p .long .inHalfEdges; inRows = record { inFirst = p .long .inFirst; inSize = p .long .inSize; inSide = p .long .inSide; inArea = p .long .inArea } },
     )
-
-write-sides-requires : tie.Need-write-sides-requires
-write-sides-requires c κs =
-    let w = c .before .before .before .before .before .before .before .before .before .before .before .before in
-    let s = start w in
-    let p = s .pre in
-    sides-asked limits (own s) (p .sense) (s .args .half-edges .now) (s .args .ring-first .now) (s .args .ring-length .now) (rows w) (first w) (size w) (w .list-rings .result .count) (got w (p .nodesZ) (p .degree) (p .nodesMarked) (p .lines) (p .lineIds) (p .target) (p .star) (p .sense) (p .groups) .listed)
-    (length (s .args .ring-side .now)) (length (s .args .ring-area .now)) (p .roomed) (p .long .inHalfEdges) (p .long .inFirst) (p .long .inSize) (p .long .inSide) (p .long .inArea)
 
 wide-requires : tie.Need-wide-requires
 wide-requires c κs = search needs
@@ -135,7 +128,7 @@ slice-reshare-prefix-number-faces c = inside c
 slice-aggregate-number-faces : tie.Need-slice-aggregate-number-faces
 slice-aggregate-number-faces c =
     let y = c .before in
-    sym (length-take-le (2 * y .wide .result) (rows (listing y)) (inside y))
+    sym (length-take-le (2 * y .wide .result) (halves (listing y)) (inside y))
 
 wide-requires-2 : tie.Need-wide-requires-2
 wide-requires-2 c κs = search needs
@@ -143,16 +136,14 @@ wide-requires-2 c κs = search needs
 number-faces-requires : tie.Need-number-faces-requires
 number-faces-requires c κs =
     let y = c .before .before .before .before .before .before in
-    let v = c .before .before .before .before .before .before .before .before .before .before .before in
     let w = listing y in
     let s = start w in
     let p = s .pre in
     let k = own s in
     let h = got w (p .nodesZ) (p .degree) (p .nodesMarked) (p .lines) (p .lineIds) (p .target) (p .star) (p .sense) (p .groups) .listed in
     let n = c .before .before .wide2 .ensures in (
-      subst (λ m. Numberable limits (take (2 * y .wide .result) (rows w)) (first w) (size w) m (s .args .dir-edges-src .now) (s .args .nodes-x .now) (s .args .nodes-y .now) (v .write-sides .last .1 .1 .1 .1 .1 .1 .1 .1 .0)) (sym n)
-          (numberable limits k (p .sense) (s .args .half-edges .now) (s .args .ring-first .now) (s .args .ring-length .now) (rows w) (first w) (size w) (w .list-rings .result .count) h (2 * y .wide .result) (whole y (p .nodesZ) (p .degree) (p .nodesMarked) (p .lines) (p .lineIds) (p .target) (p .star) (p .sense) (p .groups)) (p .roomed) fine-limits (p .long .inFirst) (p .long .inSize)
-          (s .args .ring-area .now) (v .write-sides .last .1 .1 .1 .1 .1 .1 .1 .1 .0) (v .write-sides .ensures .1)),
+      subst (λ m. Numberable limits (take (2 * y .wide .result) (halves w)) (rows w .first) (rows w .size) m (s .args .dir-edges-src .now) (s .args .nodes-x .now) (s .args .nodes-y .now) (rows w .area)) (sym n)
+          (numberable limits k (p .sense) (s .args .half-edges .now) (lent s) (halves w) (rows w) (w .list-rings .result .count) h (2 * y .wide .result) (whole y (p .nodesZ) (p .degree) (p .nodesMarked) (p .lines) (p .lineIds) (p .target) (p .star) (p .sense) (p .groups)) (p .roomed) fine-limits),
       omega (arith, n, h .number, rings-few k, p .long .inFace),
     )
 
@@ -168,8 +159,8 @@ made-is x zs ds nm lines ids target star sense gs =
     let k = held s zs ds nm lines ids target star in
     let total : ℕ = 2 * y .wide .result in
     x .number-faces .ensures .1
-    ∙ ap (λ n. comparisonsAt (take total (rows w)) (first w) (size w) n (s .args .dir-edges-src .now) (s .args .nodes-x .now) (s .args .nodes-y .now)) (x .before .before .before .wide2 .ensures)
-    ∙ comparisons-replied limits k sense (s .args .half-edges .now) (s .args .ring-first .now) (s .args .ring-length .now) (rows w) (first w) (size w) (w .list-rings .result .count)
+    ∙ ap (λ n. comparisonsAt (take total (halves w)) (rows w .first) (rows w .size) n (s .args .dir-edges-src .now) (s .args .nodes-x .now) (s .args .nodes-y .now)) (x .before .before .before .wide2 .ensures)
+    ∙ comparisons-replied limits k sense (s .args .half-edges .now) (lent s) (halves w) (rows w) (w .list-rings .result .count)
     (got w zs ds nm lines ids target star sense gs .listed) total (whole y zs ds nm lines ids target star sense gs)
 
 cast-comparisons : tie.Need-cast-comparisons
@@ -178,6 +169,9 @@ cast-comparisons c =
     let s = start (listing (sized x)) in
     let p = s .pre in
     omega (arith, made-is x (p .nodesZ) (p .degree) (p .nodesMarked) (p .lines) (p .lineIds) (p .target) (p .star) (p .sense) (p .groups), comparisons-fit limits (own s) (p .sense) (lit< tt))
+
+at-stage-requires : tie.Need-at-stage-requires
+at-stage-requires c κs = search needs
 
 same-length : tie.Need-same-length
 same-length c = search needs
@@ -199,9 +193,8 @@ same-length-6 c = search needs
 
 returns : tie.Need-returns
 returns c =
-    let x = c .before .before in
+    let x = c .before .before .before in
     let y = sized x in
-    let v = y .before .before .before .before .before in
     let w = listing y in
     let s = start w in
     let total : ℕ = 2 * y .wide .result in
@@ -210,22 +203,18 @@ returns c =
     let q = got w zs ds nm lines ids target star sense gs in
     let h = q .listed in
     record {
-      advanced = refl;
+      advanced = c .at-stage .ensures;
       count = h .number ∙ rings-many k;
       counted = q .counted;
       compared = made-is x zs ds nm lines ids target star sense gs;
-      halfEdges = h .rows ∙ ap (λ r. over (flatten r) (s .args .half-edges .now)) (sym (rings-of-halves k));
+      halfEdges = h .halves ∙ ap (λ r. over (flatten r) (s .args .half-edges .now)) (sym (rings-of-halves k));
       first = h .places ∙ ap (λ r. over r (s .args .ring-first .now)) (places-replied k);
       size = h .sizes ∙ ap (λ r. over r (s .args .ring-length .now)) (sizes-replied k);
       face = x .number-faces .ensures .0 ∙ ap (λ r. over r (s .args .ring-face .now))
-          (ap (λ n. faceNumbers (ringsAt (take total (rows w)) (first w) (size w) n (s .args .dir-edges-src .now) (s .args .nodes-x .now) (s .args .nodes-y .now))) (x .before .before .before .wide2 .ensures)
-          ∙ faces-replied limits k sense (s .args .half-edges .now) (s .args .ring-first .now) (s .args .ring-length .now) (rows w) (first w) (size w) (w .list-rings .result .count) h total (whole y zs ds nm lines ids target star sense gs));
-      side = v .write-sides .ensures .0 ∙ ap (λ r. over r (s .args .ring-side .now))
-          (rings-read (minimalRings (arrangement k)) (s .args .half-edges .now) (s .args .ring-first .now) (s .args .ring-length .now) (rows w) (first w) (size w) (w .list-rings .result .count) h (λ r. sideNumber (sideOf (sideIn (s .args .dir-edges-src .now) (s .args .nodes-x .now) (s .args .nodes-y .now) r)))
-          ∙ sides-replied sideNumber limits fine-limits k sense);
-      area = v .write-sides .ensures .1 ∙ ap (λ r. over r (s .args .ring-area .now))
-          (rings-read (minimalRings (arrangement k)) (s .args .half-edges .now) (s .args .ring-first .now) (s .args .ring-length .now) (rows w) (first w) (size w) (w .list-rings .result .count) h (λ r. sideArea (sideOf (sideIn (s .args .dir-edges-src .now) (s .args .nodes-x .now) (s .args .nodes-y .now) r)))
-          ∙ sides-replied sideArea limits fine-limits k sense);
+          (ap (λ n. faceNumbers (ringsAt (take total (halves w)) (rows w .first) (rows w .size) n (s .args .dir-edges-src .now) (s .args .nodes-x .now) (s .args .nodes-y .now))) (x .before .before .before .wide2 .ensures)
+          ∙ faces-replied limits k sense (s .args .half-edges .now) (lent s) (halves w) (rows w) (w .list-rings .result .count) h total (whole y zs ds nm lines ids target star sense gs));
+      side = h .sides ∙ ap (λ r. over r (s .args .ring-side .now)) (sides-replied sideNumber limits fine-limits k sense);
+      area = h .areas ∙ ap (λ r. over r (s .args .ring-area .now)) (sides-replied sideArea limits fine-limits k sense);
     }
 
 pub extract-grouped-spec : {M : Type 1} → statement M
@@ -233,7 +222,6 @@ extract-grouped-spec =
     tie.close
     (tie.spec
     list-rings-requires
-    write-sides-requires
     wide-requires
     mul-total
     slice-reshare-prefix-number-faces
@@ -241,6 +229,7 @@ extract-grouped-spec =
     wide-requires-2
     number-faces-requires
     cast-comparisons
+    at-stage-requires
     same-length
     same-length-2
     same-length-3

@@ -5,7 +5,7 @@ use mathlib.Core.List.{List, [], _∷_, _++_}
 use Prim.Native.Nat.{ℕ, _+_, _-_, _≤_}
 use native.Mathlib.Omega.{arith}
 use borrow.Author.Needs.{needs}
-use lib.ListN.{getD, take, drop}
+use lib.ListN.{take, drop}
 use Rattle.listing_text.specs.Lines.{labelled, spaced, startingNodes}
 use Rattle.listing_text.proofs.Buffers.{Left, left-all, left-fits, left-put, left-none}
 use Rattle.listing_text.proofs.put_nodes.Statement.{statement}
@@ -18,15 +18,15 @@ abbrev μ-loop : tie.MeasureT-loop
 μ-loop out₀ at half-edges first ring-length dir-edges-src place₀ i₀ t11 out place i = ring-length - i
 
 -- what is left, with the node that is put next in front
-opened : (c : tie.After-wide2 Inv-loop μ-loop) → let a = c .before .before .before .before .before .before .before .before .before .args in let q = c .before .before .before .before .before .loop in
+opened : (c : tie.After-node-number Inv-loop μ-loop) → let a = c .before .before .before .before .before .before .before .before .before .before .args in let q = c .before .before .before .before .before .before .loop in
     Left (a .at) (spaced (startingNodes (a .dir-edges-src .now) (take (a .ring-length) (drop (a .first) (a .half-edges .now))))) (a .out .now) (q .place)
-    (labelled (32 ∷ []) (c .wide2 .result) ++ spaced (startingNodes (a .dir-edges-src .now) (drop (q .i + 1) (take (a .ring-length) (drop (a .first) (a .half-edges .now)))))) (q .out)
+    (labelled (32 ∷ []) (c .node-number .result) ++ spaced (startingNodes (a .dir-edges-src .now) (drop (q .i + 1) (take (a .ring-length) (drop (a .first) (a .half-edges .now)))))) (q .out)
 opened c =
-    let k = c .before .before .before .before .before .before .before .before .before in
+    let k = c .before .before .before .before .before .before .before .before .before .before in
     let a = k .args in
-    let q = c .before .before .before .before .before .loop in
-    left-node (a .dir-edges-src .now) (a .half-edges .now) (a .first) (a .ring-length) (k .pre .0) (q .i) (c .wide2 .result) (c .before .before .before .before .loop-test .taken)
-    (c .wide2 .ensures ∙ c .before .entry .ensures ∙ ap (λ (h : ℕ). getD (a .dir-edges-src .now) h 0) (c .before .before .wide .ensures))
+    let q = c .before .before .before .before .before .before .loop in
+    left-node (a .dir-edges-src .now) (a .half-edges .now) (a .first) (a .ring-length) (k .pre .0) (q .i) (c .node-number .result) (c .before .before .before .before .before .loop-test .taken)
+    (c .node-number .ensures ∙ c .before .before .before .origin .ensures)
     (q .inv .1)
 
 loop-holds : tie.Need-loop-holds Inv-loop μ-loop
@@ -35,32 +35,28 @@ loop-holds c =
     let a = k .args in
     (omega arith, left-all (a .at) (spaced (startingNodes (a .dir-edges-src .now) (take (a .ring-length) (drop (a .first) (a .half-edges .now))))) (a .out .now) (k .pre .1))
 
-add-wide : tie.Need-add-wide Inv-loop μ-loop
-add-wide c = omega arith
+add-half : tie.Need-add-half Inv-loop μ-loop
+add-half c = omega arith
 
-mul-wide : tie.Need-mul-wide Inv-loop μ-loop
-mul-wide c = omega arith
+mul-half : tie.Need-mul-half Inv-loop μ-loop
+mul-half c = omega arith
 
-shared-slice-read-wide : tie.Need-shared-slice-read-wide Inv-loop μ-loop
-shared-slice-read-wide c = omega arith
+shared-slice-read-half : tie.Need-shared-slice-read-half Inv-loop μ-loop
+shared-slice-read-half c = omega arith
 
-wide-requires : tie.Need-wide-requires Inv-loop μ-loop
-wide-requires c κs = search needs
-
-entry-requires : tie.Need-entry-requires Inv-loop μ-loop
-entry-requires c κs = search needs
-
-wide-requires-2 : tie.Need-wide-requires-2 Inv-loop μ-loop
-wide-requires-2 c κs = search needs
+origin-requires : tie.Need-origin-requires Inv-loop μ-loop
+origin-requires c κs = search needs
 
 slice-aggregate-put-labelled : tie.Need-slice-aggregate-put-labelled Inv-loop μ-loop
 slice-aggregate-put-labelled c = refl
 
+node-number-requires : tie.Need-node-number-requires Inv-loop μ-loop
+node-number-requires c κs = search needs
+
 put-labelled-requires : tie.Need-put-labelled-requires Inv-loop μ-loop
 put-labelled-requires c κs =
-    let d = c .before .before in
-    let a = d .before .before .before .before .before .before .before .before .before .args in
-    left-fits (labelled (32 ∷ []) (d .wide2 .result)) (spaced (startingNodes (a .dir-edges-src .now) (drop (d .before .before .before .before .before .loop .i + 1) (take (a .ring-length) (drop (a .first) (a .half-edges .now)))))) (opened d)
+    let a = c .before .before .before .before .before .before .before .before .before .before .args in
+    left-fits (labelled (32 ∷ []) (c .node-number .result)) (spaced (startingNodes (a .dir-edges-src .now) (drop (c .before .before .before .before .before .before .loop .i + 1) (take (a .ring-length) (drop (a .first) (a .half-edges .now)))))) (opened c)
 
 add-i : tie.Need-add-i Inv-loop μ-loop
 add-i c = omega arith
@@ -69,7 +65,7 @@ loop-less : tie.Need-loop-less Inv-loop μ-loop
 loop-less c = omega arith
 
 loop-again : tie.Need-loop-again Inv-loop μ-loop
-loop-again c = (omega arith, left-put (c .before .before .put-labelled .ensures) (opened (c .before .before .before .before .before)))
+loop-again c = (omega arith, left-put (c .before .before .put-labelled .ensures) (opened (c .before .before .before)))
 
 same-length : tie.Need-same-length Inv-loop μ-loop
 same-length c = c .before .loop .inv .1 .long
@@ -93,13 +89,12 @@ put-nodes-spec =
     Inv-loop
     μ-loop
     loop-holds
-    add-wide
-    mul-wide
-    shared-slice-read-wide
-    wide-requires
-    entry-requires
-    wide-requires-2
+    add-half
+    mul-half
+    shared-slice-read-half
+    origin-requires
     slice-aggregate-put-labelled
+    node-number-requires
     put-labelled-requires
     add-i
     loop-less

@@ -1,7 +1,7 @@
 -- `faces::numbers::number_faces` meets its contract: the lists that the steps fill hold the rings of the tables, and a ring's place in their
 -- order is its face number.
 -- Assumes nothing.
-use Prim.Native.Nat.{ℕ, _+_, _<_, _≤_}
+use Prim.Native.Nat.{ℕ, _+_, _*_, _<_, _≤_}
 use native.Mathlib.Omega.{arith}
 use mathlib.Core.Path.{_≡_, refl, sym, ap, subst, _∙_}
 use mathlib.Core.List.{List, map}
@@ -21,15 +21,15 @@ use Rattle.faces.proofs.numbers.number_faces.Tie as tie
 
 -- a local table at first
 abbrev zeros : List ℕ
-zeros = replicate 2048 0
+zeros = replicate (2 * limits .edges) 0
 
 -- it has an entry for each half-edge
 fits : (s : tie.Start) → length (s .args .half-edges .now) ≤ length zeros
-fits s = omega (arith, s .pre .0 .short, length-replicate {A = ℕ} 2048 0)
+fits s = omega (arith, s .pre .0 .short, length-replicate {A = ℕ} (2 * limits .edges) 0)
 
 -- and for each ring
 few : (s : tie.Start) → s .args .count ≤ length zeros
-few s = omega (arith, s .pre .0 .few, length-replicate {A = ℕ} 2048 0)
+few s = omega (arith, s .pre .0 .few, length-replicate {A = ℕ} (2 * limits .edges) 0)
 
 -- the start, from where the bits are written
 abbrev entry : tie.After-write-bits2 → tie.Start

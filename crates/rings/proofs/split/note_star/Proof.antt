@@ -5,9 +5,11 @@ use mathlib.Core.Path.{_≡_, refl, sym, ap, _∙_}
 use mathlib.Core.Bool.{Bool}
 use lib.ListN.{length, getD, set, length-set}
 use Rattle.lists.specs.Lists.{pick}
-use Rattle.rings.specs.Groups.{unmarked, entryOf, part}
+use Rattle.stars.specs.Groups.{unmarked, part}
+use Rattle.rings.specs.Listing.{entryOf}
 use Rattle.rings.specs.Splits.{noted}
-use Rattle.rings.proofs.Parts.{part-end, part-in, part-yes, part-no}
+use Rattle.stars.proofs.Groups.{part-end, part-in}
+use Rattle.rings.proofs.Parts.{before-yes, before-no}
 use Rattle.rings.proofs.split.note_star.Statement.{statement}
 use Rattle.rings.proofs.split.note_star.Tie as tie
 
@@ -77,7 +79,7 @@ loop-again c =
       length-set (q .upcoming) (c .index-at .result) h ∙ q .inv .2,
       ap (λ k. set (q .upcoming) k h) (c .index-at .ensures) ∙ ap (λ u. set u (lab h) h) (q .inv .3)
           ∙ ap (λ r. noted lab r (s .args .upcoming .now))
-          (sym (part-yes p (q .i - 1) (q .i) (s .args .to) l (omega arith) (q .inv .1) (s .pre .within .ends) (sym (c .before .before .is-active .ensures) ∙ c .before .if1 .taken))),
+          (sym (before-yes p (q .i - 1) (q .i) (s .args .to) l (omega arith) (q .inv .1) (s .pre .within .ends) (sym (c .before .before .is-active .ensures) ∙ c .before .if1 .taken))),
     )
 
 loop-less-2 : tie.Need-loop-less-2 Inv-loop μ-loop
@@ -94,7 +96,7 @@ loop-again-2 c =
       omega arith,
       q .inv .2,
       q .inv .3 ∙ ap (λ r. noted lab r (s .args .upcoming .now))
-          (sym (part-no p (q .i - 1) (q .i) (s .args .to) l (omega arith) (q .inv .1) (s .pre .within .ends) (sym (c .before .is-active .ensures) ∙ c .if1 .left))),
+          (sym (before-no p (q .i - 1) (q .i) (s .args .to) l (omega arith) (q .inv .1) (s .pre .within .ends) (sym (c .before .is-active .ensures) ∙ c .if1 .left))),
     )
 
 same-length : tie.Need-same-length Inv-loop μ-loop

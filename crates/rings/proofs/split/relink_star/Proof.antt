@@ -8,10 +8,12 @@ use mathlib.Core.List.{[], _∷_}
 use lib.ListN.{length, getD, set, length-set}
 use Rattle.lists.specs.Lists.{pick, In}
 use Rattle.rules.specs.HalfEdge.{twin}
-use Rattle.rings.specs.Groups.{unmarked, entryOf, part}
+use Rattle.stars.specs.Groups.{unmarked, part}
+use Rattle.rings.specs.Listing.{entryOf}
 use Rattle.rings.specs.Splits.{noted, relinked}
 use Rattle.rules.proofs.Twin.{twin-below}
-use Rattle.rings.proofs.Parts.{part-end, part-in, part-yes, part-no}
+use Rattle.stars.proofs.Groups.{part-end, part-in}
+use Rattle.rings.proofs.Parts.{before-yes, before-no}
 use Rattle.rings.proofs.split.relink_star.Statement.{statement}
 use Rattle.rings.proofs.split.relink_star.Tie as tie
 
@@ -136,7 +138,7 @@ loop-again c =
     let u = set (q .upcoming) (c .before .before .before .index-at .result) h in
     let r = pick p (part (q .i) (s .args .to) l) in
     let more : pick p (part (q .i - 1) (s .args .to) l) ≡ h ∷ r =
-    part-yes p (q .i - 1) (q .i) (s .args .to) l (omega arith) (q .inv .1) (s .pre .0 .within .ends) (sym (c .before .before .before .before .before .before .is-active .ensures) ∙ c .before .before .before .before .before .if1 .taken) in
+    before-yes p (q .i - 1) (q .i) (s .args .to) l (omega arith) (q .inv .1) (s .pre .0 .within .ends) (sym (c .before .before .before .before .before .before .is-active .ensures) ∙ c .before .before .before .before .before .if1 .taken) in
     let e₁ : c .wide .result ≡ twin h = c .wide .ensures ∙ c .before .before .before .before .twin-of .ensures in
     let e₂ : c .before .before .index-at2 .result ≡ lab (twin h) = c .before .before .index-at2 .ensures ∙ ap lab (c .before .before .before .before .twin-of .ensures) in
     let up : u ≡ noted lab (h ∷ r) u₀ = ap (λ k. set (q .upcoming) k h) (c .before .before .before .index-at .ensures) ∙ ap (λ z. set z (lab h) h) (q .inv .4) in (
@@ -159,7 +161,7 @@ loop-again-2 c =
     let l = s .args .grouped .now in
     let lab = entryOf (s .args .labels .now) in
     let p : ℕ → Bool = unmarked (s .args .dir-edges-marked .now) in
-    let same = sym (part-no p (q .i - 1) (q .i) (s .args .to) l (omega arith) (q .inv .1) (s .pre .0 .within .ends) (sym (c .before .is-active .ensures) ∙ c .if1 .left)) in (
+    let same = sym (before-no p (q .i - 1) (q .i) (s .args .to) l (omega arith) (q .inv .1) (s .pre .0 .within .ends) (sym (c .before .is-active .ensures) ∙ c .if1 .left)) in (
       omega arith,
       omega arith,
       q .inv .2,

@@ -6,10 +6,11 @@ use mathlib.Core.Path.{_≡_, refl, ap, _∙_, subst}
 use mathlib.Core.Bool.{Bool}
 use lib.ListN.{length, getD}
 use Rattle.lists.specs.Lists.{pick}
-use Rattle.rings.specs.Groups.{unmarked, entryOf, groupOf, PartWithin}
+use Rattle.stars.specs.Groups.{unmarked, groupOf, PartWithin}
+use Rattle.rings.specs.Listing.{entryOf}
 use Rattle.rings.specs.Splits.{noted, relinked}
 use Rattle.rules.proofs.Twin.{twin-below}
-use Rattle.rings.proofs.Parts.{group-part, group-within}
+use Rattle.stars.proofs.Groups.{group-part, group-within}
 use Rattle.rings.proofs.Splitting.{SplitBelow, split-step, split-all}
 use Rattle.rings.proofs.split.split_stars.Statement.{statement}
 use Rattle.rings.proofs.split.split_stars.Tie as tie

@@ -1,7 +1,7 @@
 -- Listing with a table of its own for what is seen.
 use native.Mathlib.Omega.{arith}
-use borrow.Author.Needs.{needs}
 use mathlib.Core.Path.{refl}
+use borrow.Author.Needs.{needs}
 use Rattle.rings.proofs.walk.walk_rings.Statement.{statement}
 use Rattle.rings.proofs.walk.walk_rings.Tie as tie
 
@@ -9,7 +9,7 @@ slice-aggregate-walk-unseen : tie.Need-slice-aggregate-walk-unseen
 slice-aggregate-walk-unseen c = search needs
 
 walk-unseen-requires : tie.Need-walk-unseen-requires
-walk-unseen-requires c κs = (c .before .before .before .before .before .before .before .before .before .pre, (omega (arith, c .before .before .before .before .before .before .before .before .before .pre .few), refl))
+walk-unseen-requires c κs = let s = c .before .before .before .before .before .before .before .before .before .before .before .before .before .before .before .before in (s .pre, (omega (arith, s .pre .few), refl))
 
 same-length : tie.Need-same-length
 same-length c = search needs
@@ -19,6 +19,12 @@ same-length-2 c = search needs
 
 same-length-3 : tie.Need-same-length-3
 same-length-3 c = search needs
+
+same-length-4 : tie.Need-same-length-4
+same-length-4 c = search needs
+
+same-length-5 : tie.Need-same-length-5
+same-length-5 c = search needs
 
 returns : tie.Need-returns
 returns c = search needs
@@ -32,4 +38,6 @@ walk-rings-spec =
     same-length
     same-length-2
     same-length-3
+    same-length-4
+    same-length-5
     returns)
