@@ -1,5 +1,5 @@
 -- Document 01's listing, from the bytes of its file to the lines that are printed, by the definitions alone; and two refusals.
-use Prim.Native.Nat.{ℕ}
+use Prim.Native.Nat.{ℕ, _*_}
 use mathlib.Core.Path.{_≡_, refl}
 use mathlib.Core.Bool.{true}
 use mathlib.Core.List.{List, [], _∷_, _++_}
@@ -12,8 +12,8 @@ use Rattle.rules.specs.Adding.{add}
 use Rattle.rules.specs.Stages.{sort, pruneStep, cutStep}
 use Rattle.rules.specs.Ringing.{ringsOf, ringStep}
 use Rattle.intake.specs.Taking.{takeFrom}
-use Rattle.listing_text.specs.Decimal.{ascii, decimal}
-use Rattle.listing_text.specs.Lines.{headLine, ringLine, refusalLine}
+use Rattle.rules.specs.Decimal.{ascii, decimal}
+use Rattle.rules.specs.Lines.{headLine, ringLine, refusalLine}
 use Rattle.list_segments.specs.File.{fileText}
 
 -- tables that hold anything
@@ -22,17 +22,17 @@ tables = record {
   nodes = 7;
   edges = 7;
   stage = 7;
-  nodeX = replicate 1024 nan;
-  nodeY = replicate 1024 nan;
-  nodeZ = replicate 1024 nan;
-  degree = replicate 1024 7;
-  nodeMark = replicate 1024 true;
-  segment = replicate 6144 nan;
-  lineId = replicate 1024 7;
-  source = replicate 2048 7;
-  target = replicate 2048 7;
-  halfMark = replicate 2048 true;
-  star = replicate 2048 7;
+  nodeX = replicate (limits .nodes) nan;
+  nodeY = replicate (limits .nodes) nan;
+  nodeZ = replicate (limits .nodes) nan;
+  degree = replicate (limits .nodes) 7;
+  nodeMark = replicate (limits .nodes) true;
+  segment = replicate (6 * limits .edges) nan;
+  lineId = replicate (limits .edges) 7;
+  source = replicate (2 * limits .edges) 7;
+  target = replicate (2 * limits .edges) 7;
+  halfMark = replicate (2 * limits .edges) true;
+  star = replicate (2 * limits .edges) 7;
 }
 
 -- the eight bytes of 0.0, 3.0, 4.0 and 6.0: their high bytes are 0x0000, 0x4008, 0x4010 and 0x4018

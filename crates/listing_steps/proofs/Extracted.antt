@@ -25,7 +25,7 @@ use Rattle.rules.proofs.Areas.{exact-areas}
 use Rattle.rules.proofs.Histories.{fine-limits}
 use Rattle.rings.proofs.Bounds.{side-half, areas-small}
 use Rattle.ring_entry.specs.Clause.{Extracts}
-use Rattle.listing_steps.specs.Listing.{noRing}
+use Rattle.rules.specs.Listing.{noRing}
 use Rattle.listing_steps.specs.Shown.{HalfOf, passed, Entry, Shown}
 use Rattle.listing_steps.proofs.Halving.{exact-half}
 use Rattle.listing_steps.proofs.RingTexts.{passed-next}

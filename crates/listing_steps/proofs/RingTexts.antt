@@ -13,11 +13,12 @@ use Rattle.lists.specs.Lists.{flatten}
 use Rattle.lists.proofs.Counts.{flatten-append}
 use Rattle.rules.specs.Face.{Ring, faceNumber}
 use Rattle.rules.specs.Limits.{limits}
-use Rattle.listing_text.specs.Lines.{headLine, ringNodes, startingNodes, ringLine}
+use Rattle.rules.specs.Lines.{headLine, ringNodes, startingNodes, ringLine}
 use Rattle.listing_text.specs.Buffer.{written, Put}
 use Rattle.listing_text.proofs.Buffers.{written-none, written-row}
 use Rattle.listing_text.proofs.Lengths.{head-short, ring-short}
-use Rattle.listing_steps.specs.Listing.{noRing, lineOf, linesOf, linesRoom, listingRoom}
+use Rattle.rules.specs.Listing.{noRing, lineOf, linesOf}
+use Rattle.listing_steps.specs.Rooms.{linesRoom, listingRoom}
 use Rattle.listing_steps.specs.Shown.{passed, Shown}
 use Rattle.listing_steps.proofs.Halving.{small-mag}
 

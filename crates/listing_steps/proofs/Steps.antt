@@ -6,7 +6,7 @@ use Rattle.geometry.specs.Reply.{Reply, refused, success}
 use Rattle.rules.specs.State.{State}
 use Rattle.rules.specs.Adding.{Outcome}
 use Rattle.calls.specs.Replies.{leftWith}
-use Rattle.listing_text.specs.Lines.{refusalLine}
+use Rattle.rules.specs.Lines.{refusalLine}
 use Rattle.listing_steps.specs.Listing.{orLine}
 
 module _ {A L : Type 0} (k : ℕ) (next : A → State → List ℕ) (r : Reply A) (after : State) (lists : L) (o : Outcome A L) (e : leftWith r after lists ≡ o) where

@@ -1,3 +1,4 @@
--- The listing of a graph that was built, and what its functions ask. Read in this order.
+-- Room for the listing of a built graph, and what its functions ask. The text itself is rules/specs/Listing.antt. Read in this order.
+pub mod Rooms
 pub mod Listing
 pub mod Shown

@@ -1,34 +1,17 @@
 -- The listing of a graph that was built: the four steps, then line one and a line for each ring; or the line of the first refusal.
-use Prim.Native.Nat.{ℕ, zero, suc, _+_, _*_}
-use mathlib.Core.List.{List, [], _++_}
-use lib.ListN.{getD, replicate}
+use Prim.Native.Nat.{ℕ, _*_}
+use mathlib.Core.List.{List, _++_}
+use lib.ListN.{replicate}
 use lib.IntN.{pos}
 use lib.Ieee.{fin}
 use mathlib.Core.Bool.{false}
 use Rattle.geometry.specs.Reply.{Reply, refused, success}
-use Rattle.rules.specs.Face.{Ring, faceNumber}
 use Rattle.rules.specs.Limits.{Limits}
 use Rattle.rules.specs.State.{State}
 use Rattle.rules.specs.Stages.{sort, pruneStep, cutStep}
 use Rattle.rules.specs.Ringing.{RingLists, ringsOf, ringStep}
-use Rattle.listing_text.specs.Lines.{headLine, headRoom, startingNodes, ringLine, ringRoom, refusalLine}
-
--- ---- the rings
-
--- what is read past the last ring
-abbrev pub noRing : Ring
-noRing = record { halfEdges = []; key = []; doubled = pos 0 }
-
--- the line of ring k: its number, face number, doubled area and starting nodes
-abbrev pub lineOf : List ℕ → List Ring → ℕ → List ℕ
-lineOf source rings k =
-    let r = getD rings k noRing in
-    ringLine k (faceNumber rings r) (r .doubled) (startingNodes source (r .halfEdges))
-
--- the lines of the first n rings
-abbrev pub linesOf : List ℕ → List Ring → ℕ → List ℕ
-linesOf source rings zero = []
-linesOf source rings (suc n) = linesOf source rings n ++ lineOf source rings n
+use Rattle.rules.specs.Lines.{headLine, refusalLine}
+use Rattle.rules.specs.Listing.{linesOf}
 
 -- ---- the four steps
 
@@ -75,11 +58,3 @@ abbrev pub listedText : Limits → ℕ → State → List ℕ
 listedText l k s =
     let o = sort l s in
     orLine k (o .reply) (λ none. sortedText l k (o .state))
-
--- room for the lines of the rings: there are no more of them than half-edges, and no more nodes in all of them
-abbrev pub linesRoom : Limits → ℕ
-linesRoom l = ringRoom 1 * (2 * l .edges)
-
--- room for every listing: line one and the lines of the rings
-abbrev pub listingRoom : Limits → ℕ
-listingRoom l = headRoom + linesRoom l

@@ -9,7 +9,7 @@ use Rattle.lists.specs.Lists.{flatten}
 use Rattle.rules.specs.Face.{Ring, faceNumber}
 use Rattle.rules.specs.Limits.{limits}
 use Rattle.rules.specs.Ringing.{sideArea, exactSide}
-use Rattle.listing_steps.specs.Listing.{noRing}
+use Rattle.rules.specs.Listing.{noRing}
 
 -- the area replied for a ring whose doubled area is z
 pub record HalfOf (area : Float) (z : ℤ) : Type 0 where

@@ -7,8 +7,9 @@ ghost use lib.ListN.{length, getD};
 ghost use Rattle.rules.specs.Face.{Ring};
 ghost use Rattle.rules.specs.Limits.{limits};
 ghost use Rattle.listing_text.specs.Buffer.{Put};
-ghost use Rattle.listing_text.specs.Lines.{ringRoom};
-ghost use Rattle.listing_steps.specs.Listing.{lineOf, linesOf, linesRoom};
+ghost use Rattle.listing_text.specs.Rooms.{ringRoom};
+ghost use Rattle.rules.specs.Listing.{lineOf, linesOf};
+ghost use Rattle.listing_steps.specs.Rooms.{linesRoom};
 ghost use Rattle.listing_steps.specs.Shown.{HalfOf, Shown};
 use tables::FaceId;
 

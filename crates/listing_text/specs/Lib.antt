@@ -1,5 +1,4 @@
--- The text of the listing, as document 01 prints it. Read in this order.
-pub mod Decimal
-pub mod Lines
+-- Room for the listing's lines, and a text in a buffer. The text itself is rules/specs/Lines.antt. Read in this order.
+pub mod Rooms
 pub mod Buffer
 pub mod Worked

@@ -8,10 +8,13 @@ use lib.Dec.{eqb, leb}
 use lib.ListN.{length}
 use borrow.Author.Tests.{eqb-true, eq-eqb, le-leb}
 use Rattle.geometry.specs.declared.Line3D.{Line3D}
+use Rattle.geometry.specs.Reply.{success}
+use Rattle.lists.specs.Lists.{over}
 use Rattle.rules.specs.Limits.{Limits, limits}
-use Rattle.rules.specs.State.{State, roomy, sound}
+use Rattle.rules.specs.State.{State, arrangement, roomy, sound}
 use Rattle.rules.specs.Adding.{Outcome, demand, add}
-use Rattle.rules.specs.Stages.{step, sort, pruneStep, cutStep, reset}
+use Rattle.rules.specs.Euler.{census}
+use Rattle.rules.specs.Stages.{step, sortedState, sort, danglesOf, prunedState, pruneStep, cutsOf, cutState, cutStep, reset}
 use Rattle.rules.specs.Ringing.{RingLists, longEnough, ringed, ringStep}
 use Rattle.rules.specs.Sketch.{Call, adding, sorting, pruning, cutting, ringing, resetting}
 use Rattle.rules.specs.Claim.{call, World, turnWorld, history, emptySketch}
@@ -108,6 +111,18 @@ stays-held l s t = record { room = roomy-true l s (t .room); sense = sound-true 
 pub held-stays : (l : Limits) (s : State) → Held l s → Stays l s
 held-stays l s h = record { room = is-roomy l s (h .room); sense = is-sound l s (h .sense) }
 
+-- a graph in its stage is held after the step too
+pub sorted-held : (l : Limits) (s : State) → Held l s → s .stage ≡ 0 → Held l (sortedState s)
+sorted-held l s h z = stays-held l (sortedState s) (sorted-stays l s (held-stays l s h) z)
+
+pub pruned-held : (l : Limits) (s : State) → Held l s → s .stage ≡ 1 → Held l (prunedState s)
+pruned-held l s h z =
+    let t = held-stays l s h in
+    stays-held l (prunedState s) (record { room = pruned-roomy l s (t .room) (t .sense) z; sense = pruned-sound l s (t .room) (t .sense) z })
+
+pub cut-held : (l : Limits) (s : State) → Held l s → Held l (cutState s)
+cut-held l s h = stays-held l (cutState s) (cut-stays l s (held-stays l s h))
+
 -- ---- one stage after another
 
 -- a success that leads to a stage and keeps the number of edges
@@ -127,29 +142,35 @@ module _ (l : Limits) (s : State) (h : Held l s) where
       demand-is (roomy l s) 6 s lists _ (h .room) ∙ demand-is (sound l s) 7 s lists _ (h .sense)
       ∙ demand-is (eqb (s .stage) stage) 5 s lists o (eq-eqb (s .stage) stage z)
 
-  -- with what follows it
-  step-went : {A L : Type 0} (stage n : ℕ) (lists : L) (o : Outcome A L) → s .stage ≡ stage → Went s n o → Went s n (step l stage s lists o)
-  step-went stage n lists o z w = subst (Went s n) (sym (step-is stage lists o z)) w
-
   -- and whose lists are long enough
-  room-went : {A L : Type 0} (stage n : ℕ) (b : Bool) (lists : L) (o : Outcome A L) → s .stage ≡ stage → b ≡ true → Went s n o
-      → Went s n (step l stage s lists (demand b 8 s lists o))
-  room-went stage n b lists o z e w = step-went stage n lists (demand b 8 s lists o) z (subst (Went s n) (sym (demand-is b 8 s lists o e)) w)
+  room-is : {A L : Type 0} (stage : ℕ) (b : Bool) (lists : L) (o : Outcome A L) → s .stage ≡ stage → b ≡ true → step l stage s lists (demand b 8 s lists o) ≡ o
+  room-is stage b lists o z e = step-is stage lists (demand b 8 s lists o) z ∙ demand-is b 8 s lists o e
 
   -- sorting
-  pub sort-went : s .stage ≡ 0 → Went s 1 (sort l s)
+  pub sort-is : s .stage ≡ 0 → sort l s ≡ record { reply = success (record {}); state = sortedState s; lists = record {} }
   unfolding sort
-  sort-went z = step-went 0 1 (record {}) _ z (record { goes = record { succeeds = refl; leads = refl }; edges = refl })
+  sort-is z = step-is 0 (record {}) _ z
+
+  pub sort-went : s .stage ≡ 0 → Went s 1 (sort l s)
+  sort-went z = subst (Went s 1) (sym (sort-is z)) (record { goes = record { succeeds = refl; leads = refl }; edges = refl })
 
   -- pruning
-  pub prune-went : (out : List ℕ) → s .stage ≡ 1 → s .edges ≤ length out → Went s 2 (pruneStep l s out)
+  pub prune-is : (out : List ℕ) → s .stage ≡ 1 → s .edges ≤ length out
+      → pruneStep l s out ≡ record { reply = success (length (danglesOf s)); state = prunedState s; lists = over (danglesOf s) out }
   unfolding pruneStep
-  prune-went out z q = room-went 1 2 _ out _ z (le-leb _ _ q) (record { goes = record { succeeds = refl; leads = refl }; edges = refl })
+  prune-is out z q = room-is 1 _ out _ z (le-leb _ _ q)
+
+  pub prune-went : (out : List ℕ) → s .stage ≡ 1 → s .edges ≤ length out → Went s 2 (pruneStep l s out)
+  prune-went out z q = subst (Went s 2) (sym (prune-is out z q)) (record { goes = record { succeeds = refl; leads = refl }; edges = refl })
 
   -- cutting
-  pub cut-went : (out : List ℕ) → s .stage ≡ 2 → s .edges ≤ length out → Went s 3 (cutStep l s out)
+  pub cut-is : (out : List ℕ) → s .stage ≡ 2 → s .edges ≤ length out
+      → cutStep l s out ≡ record { reply = success (record { count = length (cutsOf s); census = census (arrangement s) }); state = cutState s; lists = over (cutsOf s) out }
   unfolding cutStep
-  cut-went out z q = room-went 2 3 _ out _ z (le-leb _ _ q) (record { goes = record { succeeds = refl; leads = refl }; edges = refl })
+  cut-is out z q = room-is 2 _ out _ z (le-leb _ _ q)
+
+  pub cut-went : (out : List ℕ) → s .stage ≡ 2 → s .edges ≤ length out → Went s 3 (cutStep l s out)
+  cut-went out z q = subst (Went s 3) (sym (cut-is out z q)) (record { goes = record { succeeds = refl; leads = refl }; edges = refl })
 
   -- what ring extraction gives
   ringed-went : (out : RingLists) → Went s 4 (ringed s out)
@@ -157,9 +178,12 @@ module _ (l : Limits) (s : State) (h : Held l s) where
   ringed-went out = record { goes = record { succeeds = refl; leads = refl }; edges = refl }
 
   -- ring extraction
-  pub ring-went : (out : RingLists) → s .stage ≡ 3 → longEnough (2 * s .edges) out ≡ true → Went s 4 (ringStep l s out)
+  pub ring-is : (out : RingLists) → s .stage ≡ 3 → longEnough (2 * s .edges) out ≡ true → ringStep l s out ≡ ringed s out
   unfolding ringStep
-  ring-went out z q = room-went 3 4 (longEnough (2 * s .edges) out) out (ringed s out) z q (ringed-went out)
+  ring-is out z q = room-is 3 (longEnough (2 * s .edges) out) out (ringed s out) z q
+
+  pub ring-went : (out : RingLists) → s .stage ≡ 3 → longEnough (2 * s .edges) out ≡ true → Went s 4 (ringStep l s out)
+  ring-went out z q = subst (Went s 4) (sym (ring-is out z q)) (ringed-went out)
 
   -- resetting, in every stage
   pub reset-goes : Goes 0 (reset l s)

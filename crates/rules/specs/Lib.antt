@@ -20,6 +20,9 @@ pub mod Pieces
 pub mod Adding
 pub mod Stages
 pub mod Ringing
+pub mod Decimal
+pub mod Lines
+pub mod Listing
 pub mod SegmentFile
 pub mod Sketch
 pub mod Claim

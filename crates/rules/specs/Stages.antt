@@ -75,16 +75,14 @@ unfolding starOf sorted angleBefore pointOf
 sortedStar s n =
     sorted (λ g h. angleBefore (pointOf s n) (pointOf s (getD (s .target) g 0)) (pointOf s (getD (s .target) h 0))) (starOf s n)
 
+-- every star sorted
+abbrev pub sortedState : State → State
+sortedState s = next s 1 (s .degree) (s .nodeMark) (s .halfMark) (over (flatten (map (sortedStar s) (upto (s .nodes)))) (s .star))
+
 -- sorting every star
 unfoldable pub sort : Limits → State → Outcome Nothing Nothing
 unfolding roomy sound sortedStar
-sort l s =
-    step l 0 s (record {})
-    (record {
-      reply = success (record {});
-      state = next s 1 (s .degree) (s .nodeMark) (s .halfMark) (over (flatten (map (sortedStar s) (upto (s .nodes)))) (s .star));
-      lists = record {};
-    })
+sort l s = step l 0 s (record {}) (record { reply = success (record {}); state = sortedState s; lists = record {} })
 
 -- ---- pruning
 
@@ -93,15 +91,21 @@ unfoldable pub pruned : State → Pruning
 unfolding starOf prune
 pruned s = prune (starOf s) (λ h. getD (s .source) h 0) (s .nodes) (s .edges) (s .degree) (s .nodeMark) (s .halfMark)
 
--- the count of dangles; the list gets their edges in the order found
+-- the edges of the dangles in the order found
+abbrev pub danglesOf : State → List ℕ
+danglesOf s = reverse (pruned s .found)
+
+-- the dangles marked
+abbrev pub prunedState : State → State
+prunedState s = let p = pruned s in next s 2 (p .degrees) (p .nodeMarks) (p .halfMarks) (s .star)
+
+-- the count of dangles; the list gets their edges
 unfoldable pub pruneStep : Limits → State → List ℕ → Outcome ℕ (List ℕ)
 unfolding roomy sound pruned
 pruneStep l s out =
-    let p = pruned s in
-    let found = reverse (p .found) in
     step l 1 s out
     (demand (leb (s .edges) (length out)) 8 s out
-    (record { reply = success (length found); state = next s 2 (p .degrees) (p .nodeMarks) (p .halfMarks) (s .star); lists = over found out }))
+    (record { reply = success (length (danglesOf s)); state = prunedState s; lists = over (danglesOf s) out }))
 
 -- ---- cutting
 
@@ -109,6 +113,14 @@ pruneStep l s out =
 abbrev pub markEdges : List ℕ → List Bool → List Bool
 markEdges [] ms = ms
 markEdges (k ∷ ks) ms = markEdges ks (set (set ms (2 * k) true) (2 * k + 1) true)
+
+-- the cut edges in rising order
+abbrev pub cutsOf : State → List ℕ
+cutsOf s = cuts (arrangement s)
+
+-- these marked
+abbrev pub cutState : State → State
+cutState s = next s 3 (s .degree) (s .nodeMark) (markEdges (cutsOf s) (s .halfMark)) (s .star)
 
 -- what cutting answers
 pub record Cutting : Type 0 where
@@ -119,15 +131,9 @@ pub record Cutting : Type 0 where
 unfoldable pub cutStep : Limits → State → List ℕ → Outcome Cutting (List ℕ)
 unfolding roomy sound arrangement cuts census
 cutStep l s out =
-    let g = arrangement s in
-    let ks = cuts g in
     step l 2 s out
     (demand (leb (s .edges) (length out)) 8 s out
-    (record {
-      reply = success (record { count = length ks; census = census g });
-      state = next s 3 (s .degree) (s .nodeMark) (markEdges ks (s .halfMark)) (s .star);
-      lists = over ks out;
-    }))
+    (record { reply = success (record { count = length (cutsOf s); census = census (arrangement s) }); state = cutState s; lists = over (cutsOf s) out }))
 
 -- ---- resetting
 

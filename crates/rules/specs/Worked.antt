@@ -1,5 +1,5 @@
 -- The tracings of document 01 that are worked by hand, P1 to P10: one table of what the definitions give and what is expected, and one proof.
-use Prim.Native.Nat.{ℕ}
+use Prim.Native.Nat.{ℕ, _*_}
 use mathlib.Core.Path.{_≡_, refl}
 use mathlib.Core.Bool.{Bool, true, false, cond, _&&_}
 use lib.Dec.{eqb}
@@ -18,6 +18,9 @@ use Rattle.geometry.specs.Reply.{Reply, refused, success}
 use Rattle.rules.specs.Adding.{Outcome, Added, add}
 use Rattle.rules.specs.Stages.{sort, pruneStep, cutStep, Cutting}
 use Rattle.rules.specs.Ringing.{ringStep, ringsOf, RingLists, Ringing}
+use Rattle.rules.specs.Decimal.{ascii, decimal}
+use Rattle.rules.specs.Lines.{headLine, ringLine}
+use Rattle.rules.specs.Listing.{listing}
 
 -- a newly created graph over tables that hold anything
 abbrev empty : State
@@ -25,28 +28,28 @@ empty = record {
   nodes = 0;
   edges = 0;
   stage = 0;
-  nodeX = replicate 1024 nan;
-  nodeY = replicate 1024 nan;
-  nodeZ = replicate 1024 nan;
-  degree = replicate 1024 7;
-  nodeMark = replicate 1024 true;
-  segment = replicate 6144 nan;
-  lineId = replicate 1024 7;
-  source = replicate 2048 7;
-  target = replicate 2048 7;
-  halfMark = replicate 2048 true;
-  star = replicate 2048 7;
+  nodeX = replicate (limits .nodes) nan;
+  nodeY = replicate (limits .nodes) nan;
+  nodeZ = replicate (limits .nodes) nan;
+  degree = replicate (limits .nodes) 7;
+  nodeMark = replicate (limits .nodes) true;
+  segment = replicate (6 * limits .edges) nan;
+  lineId = replicate (limits .edges) 7;
+  source = replicate (2 * limits .edges) 7;
+  target = replicate (2 * limits .edges) 7;
+  halfMark = replicate (2 * limits .edges) true;
+  star = replicate (2 * limits .edges) 7;
 }
 
 -- result lists that hold anything
 abbrev lists : RingLists
 lists = record {
-  halfEdges = replicate 2048 9;
-  first = replicate 2048 9;
-  length = replicate 2048 9;
-  face = replicate 2048 9;
-  side = replicate 2048 9;
-  area = replicate 2048 nan;
+  halfEdges = replicate (2 * limits .edges) 9;
+  first = replicate (2 * limits .edges) 9;
+  length = replicate (2 * limits .edges) 9;
+  face = replicate (2 * limits .edges) 9;
+  side = replicate (2 * limits .edges) 9;
+  area = replicate (2 * limits .edges) nan;
 }
 
 -- the point (x, y), z 0
@@ -93,15 +96,28 @@ sortedFrom gs = sort limits (build empty gs) .state
 
 -- then pruned
 abbrev prunedFrom : List Line3D → Outcome ℕ (List ℕ)
-prunedFrom gs = pruneStep limits (sortedFrom gs) (replicate 1024 9)
+prunedFrom gs = pruneStep limits (sortedFrom gs) (replicate (limits .edges) 9)
 
 -- then cut
 abbrev cutFrom : List Line3D → Outcome Cutting (List ℕ)
-cutFrom gs = cutStep limits (prunedFrom gs .state) (replicate 1024 9)
+cutFrom gs = cutStep limits (prunedFrom gs .state) (replicate (limits .edges) 9)
 
 -- what ring extraction says after all of these
 abbrev ringsFrom : List Line3D → List ℤ
 ringsFrom gs = let c = cutFrom gs .state in let o = ringStep limits c lists in showRings c (o .reply) (o .lists)
+
+-- the first places of the rings, their lengths, their face numbers
+abbrev showPlaces : Reply Ringing → RingLists → List ℤ
+showPlaces (refused n) l = negsuc 0 ∷ pos n ∷ []
+showPlaces (success r) l = map pos (take (r .count) (l .first) ++ take (r .count) (l .length) ++ take (r .count) (l .face))
+
+-- where the rings stand in their list
+abbrev placesFrom : List Line3D → List ℤ
+placesFrom gs = let o = ringStep limits (cutFrom gs .state) lists in showPlaces (o .reply) (o .lists)
+
+-- what is printed, byte by byte
+abbrev printedFrom : List Line3D → List ℤ
+printedFrom gs = map pos (listing (build empty gs))
 
 -- the counts of nodes and edges, and the starting nodes of each ring
 abbrev nodesFrom : List Line3D → List ℤ
@@ -190,6 +206,13 @@ table =
     ∷ row (cutsFrom triangle) (pos 0 ∷ pos 3 ∷ pos 3 ∷ pos 2 ∷ pos 1 ∷ pos 1 ∷ [])
     ∷ row (ringsFrom triangle) (pos 2 ∷ pos 12 ∷ negsuc 11 ∷ pos 1 ∷ pos 0 ∷ pos 3 ∷ pos 3 ∷ pos 2 ∷ pos 1 ∷ pos 1 ∷ [])
     ∷ row (nodesFrom triangle) (pos 4 ∷ pos 4 ∷ pos 0 ∷ pos 1 ∷ pos 2 ∷ pos 1 ∷ pos 0 ∷ pos 2 ∷ [])
+    ∷ row (placesFrom triangle) (pos 0 ∷ pos 3 ∷ pos 3 ∷ pos 3 ∷ pos 1 ∷ pos 0 ∷ [])
+    ∷ row (printedFrom triangle)
+    (map pos (
+    ascii "nodes 4 edges 4 dangles 1 cuts 0 rings 2 euler yes\n"
+    ++ ascii "ring 0 face 1 doubled 12 nodes 0 1 2\n"
+    ++ ascii "ring 1 face 0 doubled -12 nodes 1 0 2\n"
+    ))
     -- P5
     ∷ row (take 5 (ringsFrom butterfly)) (pos 4 ∷ pos 4 ∷ negsuc 3 ∷ pos 4 ∷ negsuc 3 ∷ [])
     ∷ row (drop 9 (ringsFrom butterfly)) (pos 5 ∷ pos 6 ∷ pos 3 ∷ pos 1 ∷ pos 1 ∷ [])
@@ -228,6 +251,6 @@ holds [] = []
 holds (r ∷ rs) = sameList (r .given) (r .expected) ∷ holds rs
 
 -- every row holds
-worked : holds table ≡ replicate 18 true
-unfolding add sort pruneStep cutStep ringStep ringsOf ofInt toBits leastRotation
+worked : holds table ≡ replicate 20 true
+unfolding add sort pruneStep cutStep ringStep ringsOf ofInt toBits leastRotation headLine ringLine decimal
 worked = refl

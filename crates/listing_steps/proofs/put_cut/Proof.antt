@@ -13,9 +13,10 @@ use Rattle.tables.specs.Regions.{stateIn}
 use Rattle.tables.proofs.SliceRoom.{room-of}
 use Rattle.cycles.specs.Census.{censusOf}
 use Rattle.listing_text.specs.Buffer.{Put}
-use Rattle.listing_text.specs.Lines.{headLine}
+use Rattle.rules.specs.Lines.{headLine}
 use Rattle.ring_entry.specs.Replies.{ringReply}
-use Rattle.listing_steps.specs.Listing.{linesOf, linesRoom}
+use Rattle.rules.specs.Listing.{linesOf}
+use Rattle.listing_steps.specs.Rooms.{linesRoom}
 use Rattle.listing_steps.specs.Shown.{Shown}
 use Rattle.listing_steps.proofs.RingTexts.{put-row, head-room}
 use Rattle.listing_steps.proofs.Extracted.{extracted-room, extracted-count, extracted-shown}

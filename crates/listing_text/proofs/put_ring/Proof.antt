@@ -7,8 +7,8 @@ use lib.IntN.{ℤ}
 use lib.ListN.{length, getD, take, drop}
 use mir.Syntax.{w64}
 use mir.Val.{toZ, ofZ}
-use Rattle.listing_text.specs.Decimal.{ascii, signedDecimal}
-use Rattle.listing_text.specs.Lines.{labelled, spaced, startingNodes, ringLine}
+use Rattle.rules.specs.Decimal.{ascii, signedDecimal}
+use Rattle.rules.specs.Lines.{labelled, spaced, startingNodes, ringLine}
 use Rattle.listing_text.proofs.Signs.{back}
 use Rattle.listing_text.proofs.Lengths.{ring-short}
 use Rattle.listing_text.proofs.Nodes.{ring-length}

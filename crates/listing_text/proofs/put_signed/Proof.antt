@@ -6,7 +6,7 @@ use Prim.Native.Nat.{ℕ, _+_, _≤_}
 use lib.IntN.{ℤ, pos, natAbs}
 use lib.Signed.{ltZ}
 use lib.ListN.{length}
-use Rattle.listing_text.specs.Decimal.{decimal, signedDecimal}
+use Rattle.rules.specs.Decimal.{decimal, signedDecimal}
 use Rattle.listing_text.specs.Buffer.{Put}
 use Rattle.listing_text.proofs.Signs.{back, signed-below, signed-above}
 use borrow.Author.Needs.{needs}

@@ -10,7 +10,7 @@ use mir.Val.{toZ, ofZ}
 use Rattle.listing_text.proofs.Signs.{back}
 use Rattle.rules.specs.Face.{Ring}
 use Rattle.listing_text.specs.Buffer.{Put}
-use Rattle.listing_steps.specs.Listing.{noRing}
+use Rattle.rules.specs.Listing.{noRing}
 use Rattle.listing_steps.specs.Shown.{HalfOf, Shown}
 use Rattle.listing_steps.proofs.RingTexts.{line-is}
 use borrow.Author.Needs.{needs}

@@ -1,10 +1,10 @@
 -- The lines of the listing. A line feed (10) ends each.
-use Prim.Native.Nat.{ℕ, _+_, _*_}
+use Prim.Native.Nat.{ℕ}
 use mathlib.Core.Bool.{Bool, true, false}
 use mathlib.Core.List.{List, [], _∷_, _++_, map}
 use lib.ListN.{getD, take, drop}
 use lib.IntN.{ℤ}
-use Rattle.listing_text.specs.Decimal.{ascii, decimal, signedDecimal}
+use Rattle.rules.specs.Decimal.{ascii, decimal, signedDecimal}
 
 -- a text and then a number
 abbrev pub labelled : List ℕ → ℕ → List ℕ
@@ -49,15 +49,3 @@ ringLine ring face doubled nodes =
 unfoldable pub refusalLine : ℕ → ℕ → List ℕ
 refusalLine number place =
     labelled (ascii "refused ") number ++ (labelled (ascii " record ") place ++ ascii "\n")
-
--- room that is always enough for line one: its numbers have 64 bits, so at most 20 digits; a node or a face has 16, so at most 5
-abbrev pub headRoom : ℕ
-headRoom = 146
-
--- the same for the line of a ring of so many half-edges
-abbrev pub ringRoom : ℕ → ℕ
-ringRoom size = 72 + 6 * size
-
--- and for a refusal's
-abbrev pub refusalRoom : ℕ
-refusalRoom = 57
