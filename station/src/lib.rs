@@ -55,6 +55,6 @@ mod segment_file;
 pub use graph::{Added, Census, Cuts, Graph, Records, Stage};
 pub use graph::{Coord3D, DirEdgeId, EdgeId, FaceId, Line3D, NodeId};
 pub use refusal::Refusal;
-pub use rings::{Ring, Rings, Side};
+pub use rings::{Ring, RingSide, Rings};
 pub use rotation::{least_rotation, Rotation};
 pub use segment_file::{segments, Segments};

@@ -4,7 +4,7 @@ use crate::graph::{Census, Coord3D, DirEdgeId, FaceId, Graph, NodeId};
 
 /// The side of a ring: what lies to the left of its half-edges.
 #[derive(Clone, Copy, Debug, PartialEq)]
-pub enum Side {
+pub enum RingSide {
     /// A compartment, with its area.
     Enclosed(f64),
     /// The unbounded face around a piece of the map, with its area, which is below 0.
@@ -77,7 +77,7 @@ impl<'a> Rings<'a> {
     /// The enclosed rings, which are the compartments of the map.
     pub fn enclosed(&self) -> impl Iterator<Item = Ring<'a>> {
         self.iter()
-            .filter(|ring| matches!(ring.side(), Side::Enclosed(_)))
+            .filter(|ring| matches!(ring.side(), RingSide::Enclosed(_)))
     }
 }
 
@@ -92,12 +92,12 @@ impl<'a> Ring<'a> {
         FaceId(self.graph.rings.face[self.number])
     }
 
-    pub fn side(&self) -> Side {
+    pub fn side(&self) -> RingSide {
         let area = self.graph.rings.area[self.number];
         match self.graph.rings.side[self.number] {
-            1 => Side::Enclosed(area),
-            2 => Side::Open(area),
-            _ => Side::Flat,
+            1 => RingSide::Enclosed(area),
+            2 => RingSide::Open(area),
+            _ => RingSide::Flat,
         }
     }
 

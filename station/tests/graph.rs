@@ -3,7 +3,7 @@
 use tukmiheb::layout::{EDGE_LIMIT, NODE_LIMIT};
 use tukmiheb::{
     least_rotation, segments, Coord3D, DirEdgeId, EdgeId, FaceId, Graph, Line3D, NodeId, Records,
-    Refusal, Rotation, Side, Stage,
+    Refusal, RingSide, Rotation, Stage,
 };
 
 fn line(x1: i32, y1: i32, x2: i32, y2: i32, line_id: u32) -> Line3D {
@@ -48,8 +48,8 @@ fn from_segments_to_rings() {
     let [inner, outer] = [0, 1].map(|number| rings.get(number).expect("a ring"));
     assert!(rings.get(2).is_none());
     assert_eq!((inner.number(), outer.number()), (0, 1));
-    assert_eq!(inner.side(), Side::Enclosed(6.0));
-    assert_eq!(outer.side(), Side::Open(-6.0));
+    assert_eq!(inner.side(), RingSide::Enclosed(6.0));
+    assert_eq!(outer.side(), RingSide::Open(-6.0));
     assert_eq!((inner.face(), outer.face()), (FaceId(1), FaceId(0)));
     let halves: Vec<_> = outer.half_edges().collect();
     assert_eq!(halves, [1, 5, 3].map(DirEdgeId));

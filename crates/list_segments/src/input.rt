@@ -9,8 +9,8 @@ ghost use Rattle.tables.specs.Regions.{stateIn};
 ghost use Rattle.intake.specs.Taking.{takeRecords};
 ghost use Rattle.intake.specs.Answers.{takingOf};
 ghost use Rattle.list_segments.specs.Reading.{Fronted, takenOf, progressOf, Onward};
-use intake::RECORD_BYTES;
 use intake::TakeReply;
+use segment_file::RECORD_BYTES;
 use tables::PlanarGraph;
 
 // No multiple of a record's length, so that records straddle two reads in every long file.
@@ -25,7 +25,7 @@ const READS: u64 = 0x10_0000_0000_0000;
 pub enum Progress {
     More,
     Ended,
-    Refused(u64),
+    Refused(u32),
     Failed,
 }
 

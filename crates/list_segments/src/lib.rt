@@ -30,9 +30,10 @@ fn write_text(output: i32, text: &[u8], size: usize)
 }
 
 // The one line of a file whose record is refused.
-fn print_refusal(output: i32, number: u64, records: u64) {
+fn print_refusal(output: i32, number: u32, records: u64) {
     let mut text = [0u8; 64];
-    let size = listing_text::put_refusal(&mut text, 0, number, records);
+    let shown = number as u64;
+    let size = listing_text::put_refusal(&mut text, 0, shown, records);
     write_text(output, &text, size);
 }
 
