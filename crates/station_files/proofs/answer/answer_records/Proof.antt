@@ -15,6 +15,9 @@ refusal-number-requires c κs = search needs
 enum-known-answer-2 : tie.Need-enum-known-answer-2
 enum-known-answer-2 c = search needs
 
+cast-ended : tie.Need-cast-ended
+cast-ended c = search needs
+
 write-state-requires : tie.Need-write-state-requires
 write-state-requires c κs = search needs
 
@@ -33,6 +36,7 @@ answer-records-spec =
     enum-known-answer
     refusal-number-requires
     enum-known-answer-2
+    cast-ended
     write-state-requires
     returns
     returns-2)
