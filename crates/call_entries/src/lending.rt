@@ -1,5 +1,6 @@
 // Lending: a slice whole or one entry short, a list as long as it is set to be.
 ghost use Prim.Native.Nat.{_≤_};
+use call_image::lesser;
 use tables::PlanarGraph;
 
 // What the call list sets: the small state, the slice that the next call gets one entry short, and
@@ -97,12 +98,6 @@ pub fn share_marks(marks: &[bool], short: usize) -> &[bool] {
 pub fn share_ids(ids: &[u32], short: usize) -> &[u32] {
     let n = lent(short, IDS_SLICE, ids.len());
     &ids[0..n]
-}
-
-fn lesser(a: usize, b: usize) -> usize
-    ensures { λ r. ⌜ (r ≤ a) × (r ≤ b) ⌝ }
-{
-    if a < b { a } else { b }
 }
 
 // The first entries of a list.

@@ -141,7 +141,8 @@ pub fn same_part(before: &[u64; IMAGE], after: &[u64; IMAGE], from: usize, to: u
     true
 }
 
-fn lesser(a: usize, b: usize) -> usize
+// The lesser of two lengths.
+pub fn lesser(a: usize, b: usize) -> usize
     ensures { λ r. ⌜ (r ≤ a) × (r ≤ b) ⌝ }
 {
     if a < b { a } else { b }

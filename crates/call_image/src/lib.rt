@@ -6,4 +6,5 @@ mod stays;
 pub use image::IMAGE;
 pub use image::copy_lists;
 pub use image::copy_slices;
+pub use image::lesser;
 pub use stays::is_kept;

@@ -11,6 +11,10 @@ use crate::words::coord_after;
 use crate::words::count_after;
 use crate::words::number_after;
 use geometry::Line3D;
+use tables::MAX_HALF_EDGES;
+
+// A list is lent with a length below this: at most an entry for each half-edge.
+const LENGTHS: u64 = (MAX_HALF_EDGES + 1) as u64;
 
 // Two points and a line id.
 fn read_line(text: &[u8], before: usize, end: usize) -> Call
@@ -73,7 +77,7 @@ fn read_short(text: &[u8], before: usize, end: usize) -> Call
 fn read_length(text: &[u8], before: usize, end: usize) -> Call
     requires { ⌜ (before ≤ end) × (end ≤ length (now text)) ⌝ }
 {
-    let entries = count_after(text, before, end, 2049);
+    let entries = count_after(text, before, end, LENGTHS);
     if entries.clear && entries.stop == end {
         return Call::List(entries.value as usize);
     }

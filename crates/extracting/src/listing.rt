@@ -47,7 +47,7 @@ pub fn list_rings(
         dir_edges_marked,
         maximal,
     );
-    rings::split_rings(
+    splitting::split_rings(
         graph,
         offsets,
         grouped,

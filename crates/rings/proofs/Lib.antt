@@ -1,7 +1,5 @@
--- Laws of splitting, walking, summing and sides over the tables.
+-- Laws of walking, summing and sides over the tables.
 pub mod Entries
-pub mod Parts
-pub mod Splitting
 pub mod Walking
 pub mod Rows
 pub mod Bounds

@@ -26,7 +26,8 @@ use Rattle.rules.proofs.Rings.{minimal-rings-are, split-permutes}
 use Rattle.stars.specs.Groups.{unmarked}
 use Rattle.rings.specs.Tallies.{tallyOf}
 use Rattle.rings.specs.Sides.{numberIn, shownIn}
-use Rattle.rings.specs.Listing.{entryOf, tableRings, firstPlaces, sizeOf, RingRows, rowPut, RowsRoom, stampedAt, WalkedRing, Listed}
+use Rattle.splitting.specs.Splits.{entryOf}
+use Rattle.rings.specs.Listing.{tableRings, firstPlaces, sizeOf, RingRows, rowPut, RowsRoom, stampedAt, WalkedRing, Listed}
 use Rattle.rings.specs.declared.tally.Tally.{Tally}
 use Rattle.rings.proofs.Entries.{over-set, over-sets}
 

@@ -1,5 +1,4 @@
--- What splitting, walking, tallies and the sides of rings ask and leave, over the tables.
-pub mod Splits
+-- What walking, tallies and the sides of rings ask and leave, over the tables.
 pub mod Tallies
 pub mod Sides
 pub mod Listing

@@ -13,13 +13,10 @@ use Rattle.rules.specs.Sane.{Live, Permutes}
 use Rattle.rules.specs.Limits.{Limits}
 use Rattle.rules.specs.Ringing.{sideNumber, sideArea}
 use Rattle.stars.specs.Groups.{unmarked}
+use Rattle.splitting.specs.Splits.{entryOf}
 use Rattle.rings.specs.Tallies.{tallyOf, Sited, Takable}
 use Rattle.rings.specs.Sides.{sideOf, signSide, numberIn, shownIn}
 use Rattle.rings.specs.declared.tally.Tally.{Tally}
-
--- the entries of a table as a function
-abbrev pub entryOf : List ℕ → ℕ → ℕ
-entryOf table h = getD table h 0
 
 -- every ring once, by its lowest half-edge and beginning with it
 abbrev pub tableRings : ℕ → List ℕ → List Bool → List (List ℕ)

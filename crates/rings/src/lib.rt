@@ -1,8 +1,5 @@
-// Rings: splitting the maximal rings, listing the rings, and their areas and sides. Carried over
-// from planar_graph.rs.
-mod reads;
+// Rings: listing the rings, and their areas and sides. Carried over from planar_graph.rs.
 mod side;
-mod split;
 mod tally;
 mod walk;
 
@@ -10,6 +7,5 @@ pub use side::RingSide;
 pub use side::side_area;
 pub use side::side_number;
 pub use side::side_of;
-pub use split::split_rings;
 pub use tally::Tally;
 pub use walk::walk_rings;

@@ -2,7 +2,7 @@
 ghost use mathlib.Core.Path.{_≡_};
 ghost use Prim.Native.Nat.{_<_};
 ghost use Rattle.rings.specs.Tallies.{takenAt, Takable};
-use super::reads::index_at;
+use splitting::index_at;
 use tables::DirEdgeId;
 use tables::twin_of;
 

@@ -15,7 +15,7 @@ use Rattle.stars.proofs.Groups.{groups-within}
 use Rattle.pieces.proofs.Stars.{spreads}
 use Rattle.cycles.proofs.Outcome.{next-permutes, labels-right, rings-right}
 use Rattle.rings.specs.Listing.{rowsOf, Listed}
-use Rattle.rings.proofs.Splitting.{splittable}
+use Rattle.splitting.proofs.Splitting.{splittable}
 use Rattle.rings.proofs.Rows.{table-permutes, table-rings}
 use Rattle.extracting.proofs.listing.list_rings.Statement.{statement}
 use Rattle.extracting.proofs.listing.list_rings.Tie as tie

@@ -16,7 +16,7 @@ use Rattle.rules.proofs.CycleLaws.{cycle-self, cycle-live}
 use Rattle.rules.proofs.Framing.{permutes-wide, live-wide, cycle-frame}
 use Rattle.rules.proofs.Marking.{cycle-next, walk-less}
 use Rattle.rings.specs.Tallies.{takenAt}
-use Rattle.rings.specs.Listing.{entryOf}
+use Rattle.splitting.specs.Splits.{entryOf}
 use Rattle.rings.proofs.Walking.{Walking, walking-same, walking-first, walking-on, walking-end, walking-room, walked-frame, walked-same}
 use Rattle.rings.proofs.walk.walk_ring.Statement.{statement}
 use Rattle.rings.proofs.walk.walk_ring.Tie as tie

@@ -9,7 +9,8 @@ use lib.ListN.{length, getD}
 use borrow.Author.Tests.{not-true, not-false}
 use Rattle.rules.specs.Cycles.{cycle}
 use Rattle.stars.specs.Groups.{unmarked}
-use Rattle.rings.specs.Listing.{entryOf, RingRows, rowsOf, rowPut, WalkedRing}
+use Rattle.splitting.specs.Splits.{entryOf}
+use Rattle.rings.specs.Listing.{RingRows, rowsOf, rowPut, WalkedRing}
 use Rattle.rings.proofs.Walking.{walked-same}
 use Rattle.rings.proofs.Rows.{Held, held-first, held-few, held-room, held-new, held-marked, held-has, held-all}
 use Rattle.rings.proofs.walk.walk_unseen.Statement.{statement}

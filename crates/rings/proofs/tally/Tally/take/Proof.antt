@@ -8,7 +8,7 @@ use lib.Ieee.{nan}
 use Rattle.rules.specs.HalfEdge.{twin}
 use Rattle.rules.proofs.Twin.{twin-below}
 use Rattle.rings.specs.Tallies.{taken}
-use Rattle.rings.specs.Listing.{entryOf}
+use Rattle.splitting.specs.Splits.{entryOf}
 use Rattle.rings.proofs.tally.Tally.take.Statement.{statement}
 use Rattle.rings.proofs.tally.Tally.take.Tie as tie
 

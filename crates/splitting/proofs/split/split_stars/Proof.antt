@@ -7,13 +7,12 @@ use mathlib.Core.Bool.{Bool}
 use lib.ListN.{length, getD}
 use Rattle.lists.specs.Lists.{pick}
 use Rattle.stars.specs.Groups.{unmarked, groupOf, PartWithin}
-use Rattle.rings.specs.Listing.{entryOf}
-use Rattle.rings.specs.Splits.{noted, relinked}
+use Rattle.splitting.specs.Splits.{entryOf, noted, relinked}
 use Rattle.rules.proofs.Twin.{twin-below}
 use Rattle.stars.proofs.Groups.{group-part, group-within}
-use Rattle.rings.proofs.Splitting.{SplitBelow, split-step, split-all}
-use Rattle.rings.proofs.split.split_stars.Statement.{statement}
-use Rattle.rings.proofs.split.split_stars.Tie as tie
+use Rattle.splitting.proofs.Splitting.{SplitBelow, split-step, split-all}
+use Rattle.splitting.proofs.split.split_stars.Statement.{statement}
+use Rattle.splitting.proofs.split.split_stars.Tie as tie
 
 abbrev Inv-loop : tie.InvT-loop
 Inv-loop offsets grouped dir-edges-marked labels upcoming₀ next₀ nodes n₀ upcoming next n =

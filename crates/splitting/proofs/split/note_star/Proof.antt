@@ -6,12 +6,11 @@ use mathlib.Core.Bool.{Bool}
 use lib.ListN.{length, getD, set, length-set}
 use Rattle.lists.specs.Lists.{pick}
 use Rattle.stars.specs.Groups.{unmarked, part}
-use Rattle.rings.specs.Listing.{entryOf}
-use Rattle.rings.specs.Splits.{noted}
+use Rattle.splitting.specs.Splits.{entryOf, noted}
 use Rattle.stars.proofs.Groups.{part-end, part-in}
-use Rattle.rings.proofs.Parts.{before-yes, before-no}
-use Rattle.rings.proofs.split.note_star.Statement.{statement}
-use Rattle.rings.proofs.split.note_star.Tie as tie
+use Rattle.splitting.proofs.Parts.{before-yes, before-no}
+use Rattle.splitting.proofs.split.note_star.Statement.{statement}
+use Rattle.splitting.proofs.split.note_star.Tie as tie
 
 abbrev Inv-loop : tie.InvT-loop
 Inv-loop grouped from to dir-edges-marked labels upcoming₀ i₀ upcoming i =

@@ -27,8 +27,7 @@ use Rattle.rules.proofs.Rings.{label-is, labels, split-successor-is, successor-
 use Rattle.stars.specs.Grouped.{Grouped}
 use Rattle.stars.proofs.Groups.{group-active, groups-within}
 use Rattle.stars.specs.Groups.{unmarked, groupOf}
-use Rattle.rings.specs.Listing.{entryOf}
-use Rattle.rings.specs.Splits.{noted, relinked, Splittable, Split}
+use Rattle.splitting.specs.Splits.{entryOf, noted, relinked, Splittable, Split}
 
 -- ---- lists
 

@@ -13,6 +13,10 @@ use Rattle.rules.specs.State.{arrangementIn}
 use Rattle.stars.specs.Grouped.{Grouped}
 use Rattle.stars.specs.Groups.{PartWithin, GroupsWithin}
 
+-- the entries of a table as a function
+abbrev pub entryOf : List ℕ → ℕ → ℕ
+entryOf table h = getD table h 0
+
 -- each half-edge noted under its label, from the last to the first: the first one of a label stays
 abbrev pub noted : (ℕ → ℕ) → List ℕ → List ℕ → List ℕ
 noted lab [] upcoming = upcoming

@@ -1,8 +1,8 @@
 -- Splitting with a table of labels of its own.
 use native.Mathlib.Omega.{arith}
 use mathlib.Core.Path.{refl}
-use Rattle.rings.proofs.split.split_rings.Statement.{statement}
-use Rattle.rings.proofs.split.split_rings.Tie as tie
+use Rattle.splitting.proofs.split.split_rings.Statement.{statement}
+use Rattle.splitting.proofs.split.split_rings.Tie as tie
 
 slice-aggregate-split-stars : tie.Need-slice-aggregate-split-stars
 slice-aggregate-split-stars c = refl

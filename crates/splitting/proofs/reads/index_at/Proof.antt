@@ -2,8 +2,8 @@
 use borrow.Author.Needs.{needs}
 use mathlib.Core.Path.{ap, _∙_}
 use lib.ListN.{getD}
-use Rattle.rings.proofs.reads.index_at.Statement.{statement}
-use Rattle.rings.proofs.reads.index_at.Tie as tie
+use Rattle.splitting.proofs.reads.index_at.Statement.{statement}
+use Rattle.splitting.proofs.reads.index_at.Tie as tie
 
 wide-requires : tie.Need-wide-requires
 wide-requires c κs = search needs

@@ -9,13 +9,12 @@ use lib.ListN.{length, getD, set, length-set}
 use Rattle.lists.specs.Lists.{pick, In}
 use Rattle.rules.specs.HalfEdge.{twin}
 use Rattle.stars.specs.Groups.{unmarked, part}
-use Rattle.rings.specs.Listing.{entryOf}
-use Rattle.rings.specs.Splits.{noted, relinked}
+use Rattle.splitting.specs.Splits.{entryOf, noted, relinked}
 use Rattle.rules.proofs.Twin.{twin-below}
 use Rattle.stars.proofs.Groups.{part-end, part-in}
-use Rattle.rings.proofs.Parts.{before-yes, before-no}
-use Rattle.rings.proofs.split.relink_star.Statement.{statement}
-use Rattle.rings.proofs.split.relink_star.Tie as tie
+use Rattle.splitting.proofs.Parts.{before-yes, before-no}
+use Rattle.splitting.proofs.split.relink_star.Statement.{statement}
+use Rattle.splitting.proofs.split.relink_star.Tie as tie
 
 abbrev Inv-loop : tie.InvT-loop
 Inv-loop grouped from to dir-edges-marked labels upcoming₀ next₀ i₀ upcoming next i =

@@ -1,0 +1,3 @@
+-- Laws of splitting over the tables.
+pub mod Parts
+pub mod Splitting

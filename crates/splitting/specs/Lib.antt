@@ -1,0 +1,2 @@
+-- What splitting asks and leaves, over the tables.
+pub mod Splits
