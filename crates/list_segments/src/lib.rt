@@ -1,19 +1,22 @@
 // The listing of a segment file: read from a descriptor to its end, printed to another.
 ghost use Prim.Native.Nat.{_≤_};
 ghost use lib.ListN.{length};
-use create_entry::Created;
-use input::Progress;
-use input::read_segments;
+ghost use Rattle.rules.specs.Limits.{limits};
+ghost use Rattle.listing_steps.specs.Rooms.{listingRoom};
+ghost use Rattle.list_segments.specs.Printing.{Prints, Ends};
 use libc::STDERR_FILENO;
 use listing_steps::LISTING_ROOM;
 use tables::FLOATS;
 use tables::IDS;
 use tables::MARKS;
 use tables::NUMBERS;
-use tables::PlanarGraph;
 use tables::STARS;
 
-mod input;
+// What was written for the input: a text of so many bytes, or nothing, since a read failed.
+enum Printed {
+    Text(usize),
+    Failed,
+}
 
 // Says on standard error what failed. Nothing is printed in its place.
 fn complain(what: &[u8]) {
@@ -29,80 +32,20 @@ fn write_text(output: i32, text: &[u8], size: usize)
     }
 }
 
-// The one line of a file whose record is refused.
-fn print_refusal(output: i32, number: u32, records: u64) {
-    let mut text = [0u8; 64];
-    let shown = number as u64;
-    let size = listing_text::put_refusal(&mut text, 0, shown, records);
-    write_text(output, &text, size);
-}
-
-// The listing of the graph that all records made.
-fn print_listing(
-    output: i32,
-    graph: PlanarGraph,
-    records: u64,
-    floats: &[f64],
-    numbers: &[u16],
-    stars: &mut [u16],
-    marks: &mut [bool],
-    ids: &[u32],
-) {
-    let mut text = [0u8; LISTING_ROOM];
-    let size = listing_steps::put_listing(
-        graph,
-        records,
-        floats,
-        numbers,
-        stars,
-        marks,
-        ids,
-        &mut text,
-    );
-    write_text(output, &text, size);
-}
-
-// Prints what reading came to. A read that failed is no end of the input: then nothing is listed.
-fn print_read(
-    output: i32,
-    progress: Progress,
-    graph: PlanarGraph,
-    records: u64,
-    floats: &[f64],
-    numbers: &[u16],
-    stars: &mut [u16],
-    marks: &mut [bool],
-    ids: &[u32],
-) {
-    match progress {
-        Progress::Ended => print_listing(
-            output,
-            graph,
-            records,
-            floats,
-            numbers,
-            stars,
-            marks,
-            ids,
-        ),
-        Progress::Refused(number) => print_refusal(output, number, records),
-        Progress::More | Progress::Failed => complain(b"read error\n"),
-    }
-}
-
-// Lists the segments that can be read from `input` on `output`.
-pub fn list(input: i32, output: i32) {
+// Reads the input and writes its text to the front of `out`. A read that failed is no end of the
+// input: then nothing is written.
+fn put_input(input: i32, out: &mut [u8]) -> Printed
+    requires { ⌜ listingRoom limits ≤ length (now out) ⌝ }
+    ensures text { λ r. ⌜ Prints r (now (out .entry)) (now (out .exit)) ⌝ }
+    ensures size { λ r. ⌜ Ends r (now (out .exit)) ⌝ }
+{
     let mut floats = [0.0f64; FLOATS];
     let mut numbers = [0u16; NUMBERS];
     let mut stars = [0u16; STARS];
     let mut marks = [false; MARKS];
     let mut ids = [0u32; IDS];
-    let created = create_entry::create(&floats, &numbers, &stars, &marks, &ids);
-    let Created::Graph(graph) = created else {
-        return;
-    };
-    let read = read_segments(
-        graph,
+    let read = segment_reading::read_segments(
+        byte_listing::empty_graph(),
         input,
         &mut floats,
         &mut numbers,
@@ -111,16 +54,30 @@ pub fn list(input: i32, output: i32) {
         &mut ids,
     );
     let after = read.graph;
-    let progress = read.progress;
-    print_read(
-        output,
-        progress,
+    let reply = read.reply;
+    let source = read.source;
+    if segment_reading::is_failed(source) {
+        return Printed::Failed;
+    }
+    let size = byte_listing::put_taken(
         after,
         read.records,
+        reply,
         &floats,
         &numbers,
         &mut stars,
         &mut marks,
         &ids,
+        out,
     );
+    Printed::Text(size)
+}
+
+// Lists the segments that can be read from `input` on `output`.
+pub fn list(input: i32, output: i32) {
+    let mut text = [0u8; LISTING_ROOM];
+    match put_input(input, &mut text) {
+        Printed::Text(size) => write_text(output, &text, size),
+        Printed::Failed => complain(b"read error\n"),
+    }
 }

@@ -13,6 +13,7 @@ use Rattle.lists.proofs.Entries.{getD-any}
 use Rattle.lists.proofs.Searching.{upto-at}
 use Rattle.lists.proofs.Members.{length-upto}
 use Rattle.geometry.specs.Reply.{Reply, success}
+use Rattle.rules.specs.Euler.{census}
 use Rattle.rules.specs.Face.{Ring, ringOf, doubledArea, faceNumber}
 use Rattle.rules.specs.Limits.{limits}
 use Rattle.rules.specs.State.{State, arrangement, pointOf, nodeKey, roomy, sound}
@@ -197,6 +198,11 @@ ringed-count : (s : State) (out : RingLists) (r : Ringing) → success r ≡ rin
 unfolding ringed
 ringed-count s out r e = cc
 
+-- and their verdict
+ringed-census : (s : State) (out : RingLists) (r : Ringing) → success r ≡ ringed s out .reply → r .census ≡ census (arrangement s)
+unfolding ringed
+ringed-census s out r e = cc
+
 -- a ring extraction that succeeds, into lists of an entry for each half-edge
 module _ (s after : State) (out lists : RingLists) (answer : Reply Ringing) (r : Ringing) (e : Extracts s out answer after lists) (done : answer ≡ success r) where
   passes : (sound limits s ≡ true) × (ringStep limits s out ≡ ringed s out)
@@ -207,6 +213,9 @@ module _ (s after : State) (out lists : RingLists) (answer : Reply Ringing) (r :
 
   pub extracted-count : r .count ≡ length (ringsOf s)
   extracted-count = ringed-count s out r (sym done ∙ ap (λ o. o .reply) (e ∙ passes .1))
+
+  pub extracted-census : r .census ≡ census (arrangement s)
+  extracted-census = ringed-census s out r (sym done ∙ ap (λ o. o .reply) (e ∙ passes .1))
 
   pub extracted-shown : length (lists .halfEdges) ≡ 2 * limits .edges → length (lists .first) ≡ 2 * limits .edges
       → Shown (ringsOf s) (lists .halfEdges) (lists .first) (lists .length) (lists .face) (lists .area)

@@ -1,14 +1,10 @@
 // The listing of a graph that was built: the four steps, one after another, and then the text. Each
-// function does one step and hands on what it left; where a step refuses, its line is the listing.
-ghost use mathlib.Core.Path.{_≡_};
-ghost use Prim.Native.Nat.{_≤_};
-ghost use lib.ListN.{length};
+// function does one step and hands on what it left.
 ghost use Rattle.rules.specs.Limits.{limits};
+ghost use Rattle.rules.specs.Listing.{cutText, prunedText, sortedText, listing};
 ghost use Rattle.tables.specs.Regions.{stateIn};
-ghost use Rattle.tables.specs.Refusals.{refusalNumber};
 ghost use Rattle.listing_text.specs.Buffer.{Put};
-ghost use Rattle.listing_steps.specs.Listing.{cutText, prunedText, sortedText, listedText};
-ghost use Rattle.listing_steps.specs.Rooms.{listingRoom};
+ghost use Rattle.listing_steps.specs.Due.{Due};
 use calls::StepReply;
 use cut_entry::CutReply;
 use lines::printed;
@@ -18,7 +14,6 @@ use ring_entry::RingReply;
 use tables::MAX_EDGES;
 use tables::MAX_HALF_EDGES;
 use tables::PlanarGraph;
-use tables::Refusal;
 use tables::TARGETS;
 
 mod lines;
@@ -27,18 +22,17 @@ mod lines;
 // since there are no more rings than these, nor more nodes in all of them.
 pub const LISTING_ROOM: usize = 146 + 78 * MAX_HALF_EDGES;
 
-// The number of a refusal, as it is printed.
-fn number_of(why: Refusal) -> u64
-    ensures { λ r. ⌜ r ≡ refusalNumber why ⌝ }
+// Never called: no step refuses a graph that is sound and in the stage before it, and what it leaves
+// is sound again. A step's answer has a case for a refusal all the same, and `match` wants an arm for it.
+fn never() -> usize
+    requires { ⌜ ⊥ ⌝ }
 {
-    let number = tables::refusal_number(why);
-    number as u64
+    0
 }
 
 // Cut: the rings are extracted, and line one and their lines are written.
 fn put_cut(
     graph: PlanarGraph,
-    records: u64,
     dangles: u16,
     cuts: u16,
     floats: &[f64],
@@ -48,8 +42,8 @@ fn put_cut(
     ids: &[u32],
     out: &mut [u8],
 ) -> usize
-    requires { ⌜ listingRoom limits ≤ length (now out) ⌝ }
-    ensures { λ r. ⌜ Put 0 (cutText limits records dangles cuts (stateIn limits graph (now (floats .entry)) (now (numbers .entry)) (now (stars .entry)) (now (marks .entry)) (now (ids .entry)))) (now (out .entry)) (now (out .exit)) r ⌝ }
+    requires { ⌜ Due 3 (stateIn limits graph (now floats) (now numbers) (now stars) (now marks) (now ids)) (now out) ⌝ }
+    ensures { λ r. ⌜ Put 0 (cutText dangles cuts (stateIn limits graph (now (floats .entry)) (now (numbers .entry)) (now (stars .entry)) (now (marks .entry)) (now (ids .entry)))) (now (out .entry)) (now (out .exit)) r ⌝ }
 {
     let mut half_edges = [0u16; MAX_HALF_EDGES];
     let mut ring_first = [0u16; MAX_HALF_EDGES];
@@ -96,14 +90,13 @@ fn put_cut(
                 &numbers[0..TARGETS],
             )
         }
-        RingReply::Refused(why) => { listing_text::put_refusal(out, 0, number_of(why), records) }
+        RingReply::Refused(_) => never(),
     }
 }
 
 // Pruned: cut edges are marked, and it goes on.
 fn put_pruned(
     graph: PlanarGraph,
-    records: u64,
     dangles: u16,
     floats: &[f64],
     numbers: &[u16],
@@ -112,8 +105,8 @@ fn put_pruned(
     ids: &[u32],
     out: &mut [u8],
 ) -> usize
-    requires { ⌜ listingRoom limits ≤ length (now out) ⌝ }
-    ensures { λ r. ⌜ Put 0 (prunedText limits records dangles (stateIn limits graph (now (floats .entry)) (now (numbers .entry)) (now (stars .entry)) (now (marks .entry)) (now (ids .entry)))) (now (out .entry)) (now (out .exit)) r ⌝ }
+    requires { ⌜ Due 2 (stateIn limits graph (now floats) (now numbers) (now stars) (now marks) (now ids)) (now out) ⌝ }
+    ensures { λ r. ⌜ Put 0 (prunedText dangles (stateIn limits graph (now (floats .entry)) (now (numbers .entry)) (now (stars .entry)) (now (marks .entry)) (now (ids .entry)))) (now (out .entry)) (now (out .exit)) r ⌝ }
 {
     let mut cut_edges = [0u16; MAX_EDGES];
     let done = cut_entry::delete_cut_edges(
@@ -130,7 +123,6 @@ fn put_pruned(
     match reply {
         CutReply::Cuts(cuts, _) => put_cut(
             after,
-            records,
             dangles,
             cuts,
             floats,
@@ -140,14 +132,13 @@ fn put_pruned(
             ids,
             out,
         ),
-        CutReply::Refused(why) => { listing_text::put_refusal(out, 0, number_of(why), records) }
+        CutReply::Refused(_) => never(),
     }
 }
 
 // Sorted: dangles are marked, and it goes on.
 fn put_sorted(
     graph: PlanarGraph,
-    records: u64,
     floats: &[f64],
     numbers: &[u16],
     stars: &mut [u16],
@@ -155,8 +146,8 @@ fn put_sorted(
     ids: &[u32],
     out: &mut [u8],
 ) -> usize
-    requires { ⌜ listingRoom limits ≤ length (now out) ⌝ }
-    ensures { λ r. ⌜ Put 0 (sortedText limits records (stateIn limits graph (now (floats .entry)) (now (numbers .entry)) (now (stars .entry)) (now (marks .entry)) (now (ids .entry)))) (now (out .entry)) (now (out .exit)) r ⌝ }
+    requires { ⌜ Due 1 (stateIn limits graph (now floats) (now numbers) (now stars) (now marks) (now ids)) (now out) ⌝ }
+    ensures { λ r. ⌜ Put 0 (sortedText (stateIn limits graph (now (floats .entry)) (now (numbers .entry)) (now (stars .entry)) (now (marks .entry)) (now (ids .entry)))) (now (out .entry)) (now (out .exit)) r ⌝ }
 {
     let mut dangles = [0u16; MAX_EDGES];
     let done = prune_entry::prune_dangles(graph, floats, numbers, stars, marks, ids, &mut dangles);
@@ -165,7 +156,6 @@ fn put_sorted(
     match reply {
         PruneReply::Dangles(count) => put_pruned(
             after,
-            records,
             count,
             floats,
             numbers,
@@ -174,15 +164,13 @@ fn put_sorted(
             ids,
             out,
         ),
-        PruneReply::Refused(why) => { listing_text::put_refusal(out, 0, number_of(why), records) }
+        PruneReply::Refused(_) => never(),
     }
 }
 
-// The listing of a graph that was built from so many records, written to the front of `out`. Answers
-// how many bytes it has.
+// The listing of a graph that was built, written to the front of `out`. Answers how many bytes it has.
 pub fn put_listing(
     graph: PlanarGraph,
-    records: u64,
     floats: &[f64],
     numbers: &[u16],
     stars: &mut [u16],
@@ -190,14 +178,14 @@ pub fn put_listing(
     ids: &[u32],
     out: &mut [u8],
 ) -> usize
-    requires { ⌜ listingRoom limits ≤ length (now out) ⌝ }
-    ensures { λ r. ⌜ Put 0 (listedText limits records (stateIn limits graph (now (floats .entry)) (now (numbers .entry)) (now (stars .entry)) (now (marks .entry)) (now (ids .entry)))) (now (out .entry)) (now (out .exit)) r ⌝ }
+    requires { ⌜ Due 0 (stateIn limits graph (now floats) (now numbers) (now stars) (now marks) (now ids)) (now out) ⌝ }
+    ensures { λ r. ⌜ Put 0 (listing (stateIn limits graph (now (floats .entry)) (now (numbers .entry)) (now (stars .entry)) (now (marks .entry)) (now (ids .entry)))) (now (out .entry)) (now (out .exit)) r ⌝ }
 {
     let done = sort_entry::sort_edges(graph, floats, numbers, stars, marks, ids);
     let after = done.graph;
     let reply = done.reply;
     match reply {
-        StepReply::Done => put_sorted(after, records, floats, numbers, stars, marks, ids, out),
-        StepReply::Refused(why) => { listing_text::put_refusal(out, 0, number_of(why), records) }
+        StepReply::Done => put_sorted(after, floats, numbers, stars, marks, ids, out),
+        StepReply::Refused(_) => never(),
     }
 }

@@ -1,13 +1,17 @@
--- `put_cut` meets its contract: the answer of ring extraction decides; line one and then the lines of the rings that the lists hold.
+-- `put_cut` meets its contract: ring extraction succeeds; line one and then the lines of the rings that the lists hold.
 use Prim.Native.Nat.{_+_, _*_, _≤_}
 use mathlib.Core.Path.{_≡_, ap, subst, _∙_}
+use mathlib.Core.Bool.{false}
 use mathlib.Core.List.{_++_}
 use native.Mathlib.Omega.{arith}
 use lib.ListN.{length}
-use lib.Ieee.{ofBits}
+use lib.IntN.{pos}
+use lib.Ieee.{fin, ofBits}
 use Rattle.geometry.specs.Reply.{success}
 use Rattle.rules.specs.Limits.{limits}
-use Rattle.rules.specs.State.{State}
+use Rattle.rules.specs.Euler.{census}
+use Rattle.rules.specs.State.{State, arrangement}
+use Rattle.rules.proofs.Going.{ring-went}
 use Rattle.rules.specs.Ringing.{Ringing, ringsOf}
 use Rattle.tables.specs.Regions.{stateIn}
 use Rattle.tables.proofs.SliceRoom.{room-of}
@@ -19,8 +23,8 @@ use Rattle.rules.specs.Listing.{linesOf}
 use Rattle.listing_steps.specs.Rooms.{linesRoom}
 use Rattle.listing_steps.specs.Shown.{Shown}
 use Rattle.listing_steps.proofs.RingTexts.{put-row, head-room}
-use Rattle.listing_steps.proofs.Extracted.{extracted-room, extracted-count, extracted-shown}
-use Rattle.listing_steps.proofs.Steps.{refused-text, done-text}
+use Rattle.listing_steps.proofs.Extracted.{extracted-room, extracted-count, extracted-census, extracted-shown}
+use Rattle.listing_steps.proofs.Steps.{unrefused, ring-room}
 use borrow.Author.Needs.{needs}
 use Rattle.listing_steps.proofs.put_cut.Statement.{statement}
 use Rattle.listing_steps.proofs.put_cut.Tie as tie
@@ -77,7 +81,7 @@ printed-requires-5 : tie.Need-printed-requires-5
 printed-requires-5 c κs = search needs
 
 put-head-requires : tie.Need-put-head-requires
-put-head-requires c κs = omega (arith, entry (c .before .before .before .before .before .before .before .before .before .before .before .before .before .before .before) .pre)
+put-head-requires c κs = omega (arith, entry (c .before .before .before .before .before .before .before .before .before .before .before .before .before .before .before) .pre .room)
 
 slice-aggregate-put-rings : tie.Need-slice-aggregate-put-rings
 slice-aggregate-put-rings c = search needs
@@ -122,13 +126,18 @@ many : (c : tie.After-put-head) → answer c .count ≡ length (ringsOf (held (e
 unfolding ofBits
 many c = extracted-count (held (entry (ringed c))) _ _ _ _ _ (ringed c .extract-rings .ensures) (done c)
 
+-- and with their verdict
+seen : (c : tie.After-put-head) → answer c .census ≡ census (arrangement (held (entry (ringed c))))
+unfolding ofBits
+seen c = extracted-census (held (entry (ringed c))) _ _ _ _ _ (ringed c .extract-rings .ensures) (done c)
+
 -- line one leaves room for their lines
 head-fits : (c : tie.After-put-head) → c .put-head .result + linesRoom limits ≤ length (c .put-head .last .0)
 head-fits c =
     let k = entry (ringed c) in
     head-room _ _ _ _ _ _ (k .args .out .now) (c .put-head .last .0) (c .put-head .result)
     (omega (arith, c .before .before .before .before .before .printed .ensures)) (omega (arith, c .before .before .before .before .printed2 .ensures)) (omega (arith, c .before .before .before .printed3 .ensures)) (omega (arith, c .before .before .printed4 .ensures)) (omega (arith, c .before .printed5 .ensures))
-    (c .put-head .ensures) (k .pre) (c .put-head .kept .0)
+    (c .put-head .ensures) (k .pre .room) (c .put-head .kept .0)
 
 sub-put-rings : tie.Need-sub-put-rings
 sub-put-rings c = search needs
@@ -142,14 +151,15 @@ part-put-rings-end c = roomed (c .before .before .before .before .before .before
 put-rings-requires : tie.Need-put-rings-requires
 put-rings-requires c κs = let h = c .before .before .before .before .before .before .before .before .before in (ringsOf (held (entry (ringed h))), shown h, many h, head-fits h)
 
-enum-known-reply-2 : tie.Need-enum-known-reply-2
-enum-known-reply-2 c = search needs
+enum-told : tie.Need-enum-told
+enum-told c = search needs
 
-number-of-requires : tie.Need-number-of-requires
-number-of-requires c κs = search needs
-
-put-refusal-requires : tie.Need-put-refusal-requires
-put-refusal-requires c κs = omega (arith, entry (c .before .before .before .before .before .before .before .before .before .before .before) .pre)
+never-requires : tie.Need-never-requires
+unfolding ofBits
+never-requires c κs =
+    let x = c .before .before .before .before .before .before .before .before in
+    let k = entry x in
+    unrefused _ _ _ _ (x .extract-rings .ensures) (ring-went limits (held k) (k .pre .held) _ (k .pre .here) (ring-room (held k) (k .pre .held) (fin false 0 (pos 0))) .goes .succeeds) _ (ap ringReply (c .enum-told .given .1))
 
 same-length : tie.Need-same-length
 same-length c = search needs
@@ -163,22 +173,11 @@ returns c =
     let t = c .before .before .put-rings in
     subst (λ y. Put 0 y (a .out .now) (t .last .0) (t .result))
     ((λ i. headLine (h .before .before .before .before .before .printed .ensures i) (h .before .before .before .before .printed2 .ensures i) (h .before .before .before .printed3 .ensures i) (h .before .before .printed4 .ensures i) (h .before .printed5 .ensures i) (answer h .census .verdict) ++ linesOf (s .source) (ringsOf s) (answer h .count))
-    ∙ done-text (a .records) (λ r y. headLine (s .nodes) (s .edges) (a .dangles) (a .cuts) (r .count) (r .census .verdict) ++ linesOf (s .source) (ringsOf s) (r .count)) _ _ _ _ (ringed h .extract-rings .ensures) _ (done h))
+    ∙ (λ i. headLine (s .nodes) (s .edges) (a .dangles) (a .cuts) (many h i) (seen h i .verdict) ++ linesOf (s .source) (ringsOf s) (many h i)))
     (put-row 0 _ _ (a .out .now) (h .put-head .last .0) (t .last .0) (h .put-head .result) (t .result) (omega (arith, h .put-head .ensures .after, head-fits h, h .put-head .kept .0)) (h .put-head .ensures) (t .ensures (ringsOf s) (shown h) (many h)))
 
-same-length-2 : tie.Need-same-length-2
-same-length-2 c = search needs
-
 returns-2 : tie.Need-returns-2
-unfolding ofBits
-returns-2 c =
-    let x = c .before .before .before .before .before .before .before .before .before .before .before .before .before .before in
-    let a = entry x .args in
-    let s = held (entry x) in
-    let t = c .before .before .put-refusal in
-    subst (λ y. Put 0 y (a .out .now) (t .last .0) (t .result))
-    (refused-text (a .records) (λ r y. headLine (s .nodes) (s .edges) (a .dangles) (a .cuts) (r .count) (r .census .verdict) ++ linesOf (s .source) (ringsOf s) (r .count)) _ _ _ _ (x .extract-rings .ensures) _ _ (c .before .before .before .number-of .ensures) (ap ringReply (c .before .before .before .before .before .before .reply2 .given .1)))
-    (t .ensures)
+returns-2 c = absurd (never-requires (c .before) (c .never .lifetimes))
 
 pub put-cut-spec : {M : Type 1} → statement M
 put-cut-spec =
@@ -207,10 +206,8 @@ put-cut-spec =
     part-put-rings-start
     part-put-rings-end
     put-rings-requires
-    enum-known-reply-2
-    number-of-requires
-    put-refusal-requires
+    enum-told
+    never-requires
     same-length
     returns
-    same-length-2
     returns-2)

@@ -1,10 +1,21 @@
--- `put_pruned` meets its contract: the cutting's answer decides, and what follows is the text of the cut graph.
-use mathlib.Core.Path.{ap, subst}
+-- `put_pruned` meets its contract: cutting succeeds, and what follows is the text of the cut graph.
+use mathlib.Core.Path.{_≡_, refl, ap, subst}
+use Prim.Native.Nat.{ℕ}
+use mathlib.Core.List.{List}
+use lib.ListN.{length, replicate}
+use Rattle.lists.specs.Lists.{over}
+use Rattle.geometry.specs.Reply.{success}
 use Rattle.rules.specs.Limits.{limits}
+use Rattle.rules.specs.Euler.{census}
+use Rattle.rules.specs.State.{State, arrangement}
+use Rattle.rules.specs.Stages.{cutsOf, cutState, cutStep}
+use Rattle.rules.specs.Listing.{cutText}
+use Rattle.rules.proofs.Going.{cut-is, cut-went}
+use Rattle.tables.specs.Regions.{stateIn}
+use Rattle.calls.specs.Replies.{leftWith}
 use Rattle.listing_text.specs.Buffer.{Put}
 use Rattle.cut_entry.specs.Replies.{cutReply}
-use Rattle.listing_steps.specs.Listing.{cutText}
-use Rattle.listing_steps.proofs.Steps.{refused-text, done-text}
+use Rattle.listing_steps.proofs.Steps.{unrefused, answered, leaves, edge-room, cut-due}
 use borrow.Author.Needs.{needs}
 use Rattle.listing_steps.proofs.put_pruned.Statement.{statement}
 use Rattle.listing_steps.proofs.put_pruned.Tie as tie
@@ -12,6 +23,19 @@ use Rattle.listing_steps.proofs.put_pruned.Tie as tie
 -- the start, from where the step was made
 abbrev entry : tie.After-delete-cut-edges → tie.Start
 entry c = c .before .before .before .before .before .before .before .before .before
+
+-- the state that the slices hold
+abbrev held : tie.Start → State
+held k = stateIn limits (k .args .graph) (k .args .floats .now) (k .args .numbers .now) (k .args .stars .now) (k .args .marks .now) (k .args .ids .now)
+
+-- cutting succeeds
+done : (c : tie.After-delete-cut-edges) → (let s = held (entry c) in let out : List ℕ = replicate (limits .edges) 0 in cutStep limits s out ≡ leftWith (success (record { count = length (cutsOf s); census = census (arrangement s) })) (cutState s) (over (cutsOf s) out))
+done c = let k = entry c in cut-is limits (held k) (k .pre .held) (replicate (limits .edges) 0) (k .pre .here) (edge-room (held k) (k .pre .held))
+
+-- what it leaves
+cuts : (c : tie.After-delete-cut-edges) → (let a = entry c .args in
+    stateIn limits (c .delete-cut-edges .result .graph) (a .floats .now) (a .numbers .now) (a .stars .now) (c .delete-cut-edges .last .1 .1 .1 .1 .0) (a .ids .now)) ≡ cutState (held (entry c))
+cuts c = leaves _ _ _ _ _ (c .delete-cut-edges .ensures) (done c)
 
 slice-aggregate-delete-cut-edges : tie.Need-slice-aggregate-delete-cut-edges
 slice-aggregate-delete-cut-edges c = search needs
@@ -23,16 +47,16 @@ enum-known-reply : tie.Need-enum-known-reply
 enum-known-reply c = search needs
 
 put-cut-requires : tie.Need-put-cut-requires
-put-cut-requires c κs = search needs
+put-cut-requires c κs = let d = c .before .before .before .before .before .before .before .before .before in cut-due (held (entry d)) _ (entry d .args .out .now) (entry d .pre) (cuts d)
 
-enum-known-reply-2 : tie.Need-enum-known-reply-2
-enum-known-reply-2 c = search needs
+enum-told : tie.Need-enum-told
+enum-told c = search needs
 
-number-of-requires : tie.Need-number-of-requires
-number-of-requires c κs = search needs
-
-put-refusal-requires : tie.Need-put-refusal-requires
-put-refusal-requires c κs = search needs
+never-requires : tie.Need-never-requires
+never-requires c κs =
+    let d = c .before .before .before .before .before .before in
+    let k = entry d in
+    unrefused _ _ _ _ (d .delete-cut-edges .ensures) (cut-went limits (held k) (k .pre .held) _ (k .pre .here) (edge-room (held k) (k .pre .held)) .goes .succeeds) _ (ap cutReply (c .enum-told .given .1))
 
 same-length : tie.Need-same-length
 same-length c = search needs
@@ -43,26 +67,16 @@ same-length-2 c = search needs
 returns : tie.Need-returns
 returns c =
     let d = c .before .before .before .before .before .before .before .before .before .before .before .before in
-    let a = entry d .args in
+    let k = entry d in
     let t = c .before .before .put-cut in
-    subst (λ x. Put 0 x (a .out .now) (t .last .1 .1 .1 .1 .1 .1 .1 .1 .1 .0) (t .result))
-    (done-text (a .records) (λ r s. cutText limits (a .records) (a .dangles) (r .count) s) _ _ _ _ (d .delete-cut-edges .ensures) _ (ap cutReply (c .before .before .before .before .before .before .reply .given .1)))
-    (t .ensures)
+    let n = answered _ _ _ _ _ _ _ (d .delete-cut-edges .ensures) (done d) refl (ap cutReply (c .before .before .before .before .before .before .reply .given .1)) in
+    subst (λ x. Put 0 x (k .args .out .now) (t .last .1 .1 .1 .1 .1 .1 .1 .1 .0) (t .result)) (λ i. cutText (k .args .dangles) (n i .count) (cuts d i)) (t .ensures)
 
 same-length-3 : tie.Need-same-length-3
 same-length-3 c = search needs
 
-same-length-4 : tie.Need-same-length-4
-same-length-4 c = search needs
-
 returns-2 : tie.Need-returns-2
-returns-2 c =
-    let d = c .before .before .before .before .before .before .before .before .before .before .before .before in
-    let a = entry d .args in
-    let t = c .before .before .put-refusal in
-    subst (λ x. Put 0 x (a .out .now) (t .last .0) (t .result))
-    (refused-text (a .records) (λ r s. cutText limits (a .records) (a .dangles) (r .count) s) _ _ _ _ (d .delete-cut-edges .ensures) _ _ (c .before .before .before .number-of .ensures) (ap cutReply (c .before .before .before .before .before .before .reply2 .given .1)))
-    (t .ensures)
+returns-2 c = absurd (never-requires (c .before) (c .never .lifetimes))
 
 pub put-pruned-spec : {M : Type 1} → statement M
 put-pruned-spec =
@@ -72,12 +86,10 @@ put-pruned-spec =
     delete-cut-edges-requires
     enum-known-reply
     put-cut-requires
-    enum-known-reply-2
-    number-of-requires
-    put-refusal-requires
+    enum-told
+    never-requires
     same-length
     same-length-2
     returns
     same-length-3
-    same-length-4
     returns-2)

@@ -1,10 +1,20 @@
--- `put_sorted` meets its contract: the pruning's answer decides, and what follows is the text of the pruned graph.
-use mathlib.Core.Path.{ap, subst}
+-- `put_sorted` meets its contract: pruning succeeds, and what follows is the text of the pruned graph.
+use mathlib.Core.Path.{_≡_, refl, ap, subst}
+use Prim.Native.Nat.{ℕ}
+use mathlib.Core.List.{List}
+use lib.ListN.{length, replicate}
+use Rattle.lists.specs.Lists.{over}
+use Rattle.geometry.specs.Reply.{success}
 use Rattle.rules.specs.Limits.{limits}
+use Rattle.rules.specs.State.{State}
+use Rattle.rules.specs.Stages.{danglesOf, prunedState, pruneStep}
+use Rattle.rules.specs.Listing.{prunedText}
+use Rattle.rules.proofs.Going.{prune-is, prune-went}
+use Rattle.tables.specs.Regions.{stateIn}
+use Rattle.calls.specs.Replies.{leftWith}
 use Rattle.listing_text.specs.Buffer.{Put}
 use Rattle.prune_entry.specs.Replies.{pruneReply}
-use Rattle.listing_steps.specs.Listing.{prunedText}
-use Rattle.listing_steps.proofs.Steps.{refused-text, done-text}
+use Rattle.listing_steps.proofs.Steps.{unrefused, answered, leaves, edge-room, pruned-due}
 use borrow.Author.Needs.{needs}
 use Rattle.listing_steps.proofs.put_sorted.Statement.{statement}
 use Rattle.listing_steps.proofs.put_sorted.Tie as tie
@@ -12,6 +22,19 @@ use Rattle.listing_steps.proofs.put_sorted.Tie as tie
 -- the start, from where the step was made
 abbrev entry : tie.After-prune-dangles → tie.Start
 entry c = c .before .before .before .before .before .before .before .before .before .before
+
+-- the state that the slices hold
+abbrev held : tie.Start → State
+held k = stateIn limits (k .args .graph) (k .args .floats .now) (k .args .numbers .now) (k .args .stars .now) (k .args .marks .now) (k .args .ids .now)
+
+-- pruning succeeds
+done : (c : tie.After-prune-dangles) → (let s = held (entry c) in let out : List ℕ = replicate (limits .edges) 0 in pruneStep limits s out ≡ leftWith (success (length (danglesOf s))) (prunedState s) (over (danglesOf s) out))
+done c = let k = entry c in prune-is limits (held k) (k .pre .held) (replicate (limits .edges) 0) (k .pre .here) (edge-room (held k) (k .pre .held))
+
+-- what it leaves
+prunes : (c : tie.After-prune-dangles) → (let a = entry c .args in let x = c .prune-dangles .last in
+    stateIn limits (c .prune-dangles .result .graph) (a .floats .now) (a .numbers .now) (x .1 .1 .1 .0) (x .1 .1 .1 .1 .0) (a .ids .now)) ≡ prunedState (held (entry c))
+prunes c = leaves _ _ _ _ _ (c .prune-dangles .ensures) (done c)
 
 slice-aggregate-prune-dangles : tie.Need-slice-aggregate-prune-dangles
 slice-aggregate-prune-dangles c = search needs
@@ -23,16 +46,16 @@ enum-known-reply : tie.Need-enum-known-reply
 enum-known-reply c = search needs
 
 put-pruned-requires : tie.Need-put-pruned-requires
-put-pruned-requires c κs = search needs
+put-pruned-requires c κs = let d = c .before .before .before .before .before .before .before .before .before .before .before .before in pruned-due (held (entry d)) _ (entry d .args .out .now) (entry d .pre) (prunes d)
 
-enum-known-reply-2 : tie.Need-enum-known-reply-2
-enum-known-reply-2 c = search needs
+enum-told : tie.Need-enum-told
+enum-told c = search needs
 
-number-of-requires : tie.Need-number-of-requires
-number-of-requires c κs = search needs
-
-put-refusal-requires : tie.Need-put-refusal-requires
-put-refusal-requires c κs = search needs
+never-requires : tie.Need-never-requires
+never-requires c κs =
+    let d = c .before .before .before .before .before .before .before .before in
+    let k = entry d in
+    unrefused _ _ _ _ (d .prune-dangles .ensures) (prune-went limits (held k) (k .pre .held) _ (k .pre .here) (edge-room (held k) (k .pre .held)) .goes .succeeds) _ (ap pruneReply (c .enum-told .given .1))
 
 same-length : tie.Need-same-length
 same-length c = search needs
@@ -46,11 +69,10 @@ same-length-3 c = search needs
 returns : tie.Need-returns
 returns c =
     let d = c .before .before .before .before .before .before .before .before .before .before .before .before .before .before .before .before .before in
-    let a = entry d .args in
+    let k = entry d in
     let t = c .before .before .before .before .put-pruned in
-    subst (λ x. Put 0 x (a .out .now) (t .last .1 .1 .1 .1 .1 .1 .1 .1 .0) (t .result))
-    (done-text (a .records) (λ n s. prunedText limits (a .records) n s) _ _ _ _ (d .prune-dangles .ensures) _ (ap pruneReply (c .before .before .before .before .before .before .before .before .before .reply .given .1)))
-    (t .ensures)
+    let n = answered _ _ _ _ _ _ _ (d .prune-dangles .ensures) (done d) refl (ap pruneReply (c .before .before .before .before .before .before .before .before .before .reply .given .1)) in
+    subst (λ x. Put 0 x (k .args .out .now) (t .last .1 .1 .1 .1 .1 .1 .1 .0) (t .result)) (λ i. prunedText (n i) (prunes d i)) (t .ensures)
 
 same-length-4 : tie.Need-same-length-4
 same-length-4 c = search needs
@@ -58,17 +80,8 @@ same-length-4 c = search needs
 same-length-5 : tie.Need-same-length-5
 same-length-5 c = search needs
 
-same-length-6 : tie.Need-same-length-6
-same-length-6 c = search needs
-
 returns-2 : tie.Need-returns-2
-returns-2 c =
-    let d = c .before .before .before .before .before .before .before .before .before .before .before .before .before .before in
-    let a = entry d .args in
-    let t = c .before .before .put-refusal in
-    subst (λ x. Put 0 x (a .out .now) (t .last .0) (t .result))
-    (refused-text (a .records) (λ n s. prunedText limits (a .records) n s) _ _ _ _ (d .prune-dangles .ensures) _ _ (c .before .before .before .number-of .ensures) (ap pruneReply (c .before .before .before .before .before .before .reply2 .given .1)))
-    (t .ensures)
+returns-2 c = absurd (never-requires (c .before) (c .never .lifetimes))
 
 pub put-sorted-spec : {M : Type 1} → statement M
 put-sorted-spec =
@@ -78,14 +91,12 @@ put-sorted-spec =
     prune-dangles-requires
     enum-known-reply
     put-pruned-requires
-    enum-known-reply-2
-    number-of-requires
-    put-refusal-requires
+    enum-told
+    never-requires
     same-length
     same-length-2
     same-length-3
     returns
     same-length-4
     same-length-5
-    same-length-6
     returns-2)

@@ -1,0 +1,153 @@
+// The listing of a segment file that is held in memory, and the text of what was taken from a file.
+ghost use Prim.Native.Nat.{_≤_};
+ghost use mathlib.Core.Path.{_≡_};
+ghost use lib.ListN.{length, drop};
+ghost use Rattle.adding.specs.Outcomes.{Ready};
+ghost use Rattle.rules.specs.Limits.{limits};
+ghost use Rattle.rules.specs.SegmentFile.{readAt};
+ghost use Rattle.tables.specs.Regions.{stateIn};
+ghost use Rattle.intake.specs.Taking.{takeFile};
+ghost use Rattle.intake.specs.Answers.{replyOf, takingOf};
+ghost use Rattle.listing_text.specs.Buffer.{Put};
+ghost use Rattle.listing_steps.specs.Due.{Due};
+ghost use Rattle.byte_listing.specs.File.{textOf};
+ghost use Rattle.byte_listing.specs.Ends.{lastReply};
+ghost use Rattle.byte_listing.specs.Clause.{listedReply, ListsBytes};
+use intake::TakeReply;
+use intake::Taken;
+use listing_steps::LISTING_ROOM;
+use segment_file::RECORD_BYTES;
+use tables::FLOATS;
+use tables::IDS;
+use tables::MARKS;
+use tables::NUMBERS;
+use tables::PlanarGraph;
+use tables::Refusal;
+use tables::STARS;
+
+// What is answered: how many bytes the text has, or the refusal of a buffer that is too short.
+pub enum Listed {
+    Text(usize),
+    Refused(Refusal),
+}
+
+// No node, no edge, stage 0: a new graph over tables of our own, which have room, so that number 6
+// need not be tested.
+pub fn empty_graph() -> PlanarGraph
+    ensures { λ r. ⌜ r ≡ record { «node_count» = 0; «edge_count» = 0; stage = 0 } ⌝ }
+{
+    PlanarGraph {
+        node_count: 0,
+        edge_count: 0,
+        stage: 0,
+    }
+}
+
+// The text of what was taken, at the front of `out`: the line of the refusal that record `records` met,
+// or the listing of the graph. Answers how many bytes it has.
+pub fn put_taken(
+    graph: PlanarGraph,
+    records: u64,
+    reply: TakeReply,
+    floats: &[f64],
+    numbers: &[u16],
+    stars: &mut [u16],
+    marks: &mut [bool],
+    ids: &[u32],
+    out: &mut [u8],
+) -> usize
+    requires { ⌜ Due 0 (stateIn limits graph (now floats) (now numbers) (now stars) (now marks) (now ids)) (now out) ⌝ }
+    ensures { λ r. ⌜ Put 0 (textOf (replyOf reply) records (stateIn limits graph (now (floats .entry)) (now (numbers .entry)) (now (stars .entry)) (now (marks .entry)) (now (ids .entry)))) (now (out .entry)) (now (out .exit)) r ⌝ }
+{
+    match reply {
+        TakeReply::Done => listing_steps::put_listing(
+            graph,
+            floats,
+            numbers,
+            stars,
+            marks,
+            ids,
+            out,
+        ),
+        TakeReply::Refused(number) => {
+            let shown = number as u64;
+            listing_text::put_refusal(out, 0, shown, records)
+        }
+    }
+}
+
+// The answer to all of a file: the first bad record's, or else that to what stands behind the last
+// record, which is the file's end or bytes too few for a record.
+fn last_reply(bytes: &[u8], at: usize, reply: TakeReply) -> TakeReply
+    requires { ⌜ at ≤ length (now bytes) ⌝ }
+    ensures { λ r. ⌜ replyOf r ≡ lastReply (replyOf reply) (readAt (drop at (now (bytes .entry))) 0) ⌝ }
+{
+    match reply {
+        TakeReply::Done => intake::end_reply(&bytes[at..]),
+        TakeReply::Refused(number) => TakeReply::Refused(number),
+    }
+}
+
+// A file from its first byte to its end or to its first bad record.
+fn take_file(
+    graph: PlanarGraph,
+    bytes: &[u8],
+    floats: &mut [f64],
+    numbers: &mut [u16],
+    stars: &mut [u16],
+    marks: &mut [bool],
+    ids: &mut [u32],
+) -> Taken
+    requires { ⌜ Ready limits (stateIn limits graph (now floats) (now numbers) (now stars) (now marks) (now ids)) ⌝ }
+    ensures { λ r. ⌜ takingOf r (now (floats .exit)) (now (numbers .exit)) (now (stars .exit)) (now (marks .exit)) (now (ids .exit))
+        ≡ takeFile limits (now (bytes .entry)) (stateIn limits graph (now (floats .entry)) (now (numbers .entry)) (now (stars .entry)) (now (marks .entry)) (now (ids .entry))) ⌝ }
+{
+    let taken = intake::take_records(graph, bytes, floats, numbers, stars, marks, ids);
+    let after = taken.graph;
+    let count = taken.count;
+    let reply = taken.reply;
+    Taken {
+        graph: after,
+        count,
+        reply: last_reply(bytes, RECORD_BYTES * count, reply),
+    }
+}
+
+// Lists a segment file at the front of `out` and answers how many bytes the listing has. An `out`
+// shorter than `LISTING_ROOM` is refused with number 8, and nothing is written.
+pub fn list_bytes(bytes: &[u8], out: &mut [u8]) -> Listed
+    ensures { λ r. ⌜ ListsBytes (now (bytes .entry)) (now (out .entry)) (listedReply r) (now (out .exit)) ⌝ }
+{
+    if out.len() < LISTING_ROOM {
+        return Listed::Refused(Refusal::ListTooShort);
+    }
+    let mut floats = [0.0f64; FLOATS];
+    let mut numbers = [0u16; NUMBERS];
+    let mut stars = [0u16; STARS];
+    let mut marks = [false; MARKS];
+    let mut ids = [0u32; IDS];
+    let taken = take_file(
+        empty_graph(),
+        bytes,
+        &mut floats,
+        &mut numbers,
+        &mut stars,
+        &mut marks,
+        &mut ids,
+    );
+    let after = taken.graph;
+    let reply = taken.reply;
+    let records = taken.count as u64;
+    let size = put_taken(
+        after,
+        records,
+        reply,
+        &floats,
+        &numbers,
+        &mut stars,
+        &mut marks,
+        &ids,
+        out,
+    );
+    Listed::Text(size)
+}
