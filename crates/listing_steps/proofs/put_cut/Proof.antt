@@ -154,13 +154,6 @@ put-rings-requires c κs = let h = c .before .before .before .before .before .be
 enum-told : tie.Need-enum-told
 enum-told c = search needs
 
-never-requires : tie.Need-never-requires
-unfolding ofBits
-never-requires c κs =
-    let x = c .before .before .before .before .before .before .before .before in
-    let k = entry x in
-    unrefused _ _ _ _ (x .extract-rings .ensures) (ring-went limits (held k) (k .pre .held) _ (k .pre .here) (ring-room (held k) (k .pre .held) (fin false 0 (pos 0))) .goes .succeeds) _ (ap ringReply (c .enum-told .given .1))
-
 same-length : tie.Need-same-length
 same-length c = search needs
 
@@ -176,8 +169,13 @@ returns c =
     ∙ (λ i. headLine (s .nodes) (s .edges) (a .dangles) (a .cuts) (many h i) (seen h i .verdict) ++ linesOf (s .source) (ringsOf s) (many h i)))
     (put-row 0 _ _ (a .out .now) (h .put-head .last .0) (t .last .0) (h .put-head .result) (t .result) (omega (arith, h .put-head .ensures .after, head-fits h, h .put-head .kept .0)) (h .put-head .ensures) (t .ensures (ringsOf s) (shown h) (many h)))
 
+-- no step refuses what is sound and in its stage
 returns-2 : tie.Need-returns-2
-returns-2 c = absurd (never-requires (c .before) (c .never .lifetimes))
+unfolding ofBits
+returns-2 c =
+    let x = c .before .before .before .before .before .before .before .before in
+    let k = entry x in
+    absurd (unrefused _ _ _ _ (x .extract-rings .ensures) (ring-went limits (held k) (k .pre .held) _ (k .pre .here) (ring-room (held k) (k .pre .held) (fin false 0 (pos 0))) .goes .succeeds) _ (ap ringReply (c .enum-told .given .1)))
 
 pub put-cut-spec : {M : Type 1} → statement M
 put-cut-spec =
@@ -207,7 +205,6 @@ put-cut-spec =
     part-put-rings-end
     put-rings-requires
     enum-told
-    never-requires
     same-length
     returns
     returns-2)

@@ -38,12 +38,6 @@ put-sorted-requires c κs = let d = c .before .before .before .before .before .b
 enum-told-2 : tie.Need-enum-told-2
 enum-told-2 c = search needs
 
-never-requires : tie.Need-never-requires
-never-requires c κs =
-    let d = c .before .before .before .before .before in
-    let k = entry d in
-    unrefused _ _ _ _ (d .sort-edges .ensures) (sort-went limits (held k) (k .pre .held) (k .pre .here) .goes .succeeds) _ (ap stepReply (c .enum-told2 .given .1))
-
 same-length : tie.Need-same-length
 same-length c = search needs
 
@@ -65,8 +59,12 @@ same-length-4 c = search needs
 same-length-5 : tie.Need-same-length-5
 same-length-5 c = search needs
 
+-- no step refuses what is sound and in its stage
 returns-2 : tie.Need-returns-2
-returns-2 c = absurd (never-requires (c .before) (c .never .lifetimes))
+returns-2 c =
+    let d = c .before .before .before .before .before in
+    let k = entry d in
+    absurd (unrefused _ _ _ _ (d .sort-edges .ensures) (sort-went limits (held k) (k .pre .held) (k .pre .here) .goes .succeeds) _ (ap stepReply (c .enum-told2 .given .1)))
 
 pub put-listing-spec : {M : Type 1} → statement M
 put-listing-spec =
@@ -76,7 +74,6 @@ put-listing-spec =
     enum-told
     put-sorted-requires
     enum-told-2
-    never-requires
     same-length
     same-length-2
     same-length-3

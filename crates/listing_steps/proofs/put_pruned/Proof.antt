@@ -52,12 +52,6 @@ put-cut-requires c κs = let d = c .before .before .before .before .before .befo
 enum-told : tie.Need-enum-told
 enum-told c = search needs
 
-never-requires : tie.Need-never-requires
-never-requires c κs =
-    let d = c .before .before .before .before .before .before in
-    let k = entry d in
-    unrefused _ _ _ _ (d .delete-cut-edges .ensures) (cut-went limits (held k) (k .pre .held) _ (k .pre .here) (edge-room (held k) (k .pre .held)) .goes .succeeds) _ (ap cutReply (c .enum-told .given .1))
-
 same-length : tie.Need-same-length
 same-length c = search needs
 
@@ -75,8 +69,12 @@ returns c =
 same-length-3 : tie.Need-same-length-3
 same-length-3 c = search needs
 
+-- no step refuses what is sound and in its stage
 returns-2 : tie.Need-returns-2
-returns-2 c = absurd (never-requires (c .before) (c .never .lifetimes))
+returns-2 c =
+    let d = c .before .before .before .before .before .before in
+    let k = entry d in
+    absurd (unrefused _ _ _ _ (d .delete-cut-edges .ensures) (cut-went limits (held k) (k .pre .held) _ (k .pre .here) (edge-room (held k) (k .pre .held)) .goes .succeeds) _ (ap cutReply (c .enum-told .given .1)))
 
 pub put-pruned-spec : {M : Type 1} → statement M
 put-pruned-spec =
@@ -87,7 +85,6 @@ put-pruned-spec =
     enum-known-reply
     put-cut-requires
     enum-told
-    never-requires
     same-length
     same-length-2
     returns

@@ -51,12 +51,6 @@ put-pruned-requires c κs = let d = c .before .before .before .before .before .b
 enum-told : tie.Need-enum-told
 enum-told c = search needs
 
-never-requires : tie.Need-never-requires
-never-requires c κs =
-    let d = c .before .before .before .before .before .before .before .before in
-    let k = entry d in
-    unrefused _ _ _ _ (d .prune-dangles .ensures) (prune-went limits (held k) (k .pre .held) _ (k .pre .here) (edge-room (held k) (k .pre .held)) .goes .succeeds) _ (ap pruneReply (c .enum-told .given .1))
-
 same-length : tie.Need-same-length
 same-length c = search needs
 
@@ -80,8 +74,12 @@ same-length-4 c = search needs
 same-length-5 : tie.Need-same-length-5
 same-length-5 c = search needs
 
+-- no step refuses what is sound and in its stage
 returns-2 : tie.Need-returns-2
-returns-2 c = absurd (never-requires (c .before) (c .never .lifetimes))
+returns-2 c =
+    let d = c .before .before .before .before .before .before .before .before in
+    let k = entry d in
+    absurd (unrefused _ _ _ _ (d .prune-dangles .ensures) (prune-went limits (held k) (k .pre .held) _ (k .pre .here) (edge-room (held k) (k .pre .held)) .goes .succeeds) _ (ap pruneReply (c .enum-told .given .1)))
 
 pub put-sorted-spec : {M : Type 1} → statement M
 put-sorted-spec =
@@ -92,7 +90,6 @@ put-sorted-spec =
     enum-known-reply
     put-pruned-requires
     enum-told
-    never-requires
     same-length
     same-length-2
     same-length-3
