@@ -1,8 +1,253 @@
-// A line of a call list as a call of a public entry, on slices and lists that may be lent short.
-mod entering;
-mod lending;
+// One call of a public entry, and its reply in one form for all of them. The extraction of rings, which is
+// lent the most lists, is in call_rings.
+use call_lending::Settings;
+use call_lending::first_numbers;
+use call_lending::lend_floats;
+use call_lending::lend_ids;
+use call_lending::lend_marks;
+use call_lending::lend_numbers;
+use call_lending::lend_stars;
+use call_lending::share_floats;
+use call_lending::share_ids;
+use call_lending::share_marks;
+use call_lending::share_numbers;
+use call_lending::share_stars;
+use call_list::GraphCall;
+use call_replies::Outcome;
+use call_replies::Reply;
+use planar_graph::AddReply;
+use planar_graph::Created;
+use planar_graph::CutReply;
+use planar_graph::Line3D;
+use planar_graph::PruneReply;
+use planar_graph::Refusal;
+use planar_graph::StepReply;
 
-pub use entering::enter;
-pub use lending::NO_SLICE;
-pub use lending::Settings;
-pub use lending::slice_of;
+// A refusal's number.
+fn refused(why: Refusal) -> Reply {
+    Reply::Refused(tables::refusal_number(why) as u64)
+}
+
+// A refusal leaves the graph that was there.
+fn create(
+    settings: Settings,
+    floats: &[f64],
+    numbers: &[u16],
+    stars: &[u16],
+    marks: &[bool],
+    ids: &[u32],
+) -> Outcome {
+    let graph = settings.graph;
+    let short = settings.short;
+    let done = planar_graph::create(
+        share_floats(floats, short),
+        share_numbers(numbers, short),
+        share_stars(stars, short),
+        share_marks(marks, short),
+        share_ids(ids, short),
+    );
+    match done {
+        Created::Graph(made) => Outcome {
+            graph: made,
+            reply: Reply::Created,
+        },
+        Created::Refused(why) => Outcome {
+            graph,
+            reply: refused(why),
+        },
+    }
+}
+
+fn add(
+    settings: Settings,
+    line: Line3D,
+    floats: &mut [f64],
+    numbers: &mut [u16],
+    stars: &mut [u16],
+    marks: &mut [bool],
+    ids: &mut [u32],
+) -> Outcome {
+    let graph = settings.graph;
+    let short = settings.short;
+    let done = planar_graph::add_line(
+        graph,
+        line,
+        lend_floats(floats, short),
+        lend_numbers(numbers, short),
+        lend_stars(stars, short),
+        lend_marks(marks, short),
+        lend_ids(ids, short),
+    );
+    let after = done.graph;
+    let answer = done.reply;
+    match answer {
+        AddReply::New(edge) => Outcome {
+            graph: after,
+            reply: Reply::New(edge),
+        },
+        AddReply::Old(edge) => Outcome {
+            graph: after,
+            reply: Reply::Old(edge),
+        },
+        AddReply::Refused(why) => Outcome {
+            graph: after,
+            reply: refused(why),
+        },
+    }
+}
+
+fn sort(
+    settings: Settings,
+    floats: &[f64],
+    numbers: &[u16],
+    stars: &mut [u16],
+    marks: &[bool],
+    ids: &[u32],
+) -> Outcome {
+    let graph = settings.graph;
+    let short = settings.short;
+    let done = planar_graph::sort_edges(
+        graph,
+        share_floats(floats, short),
+        share_numbers(numbers, short),
+        lend_stars(stars, short),
+        share_marks(marks, short),
+        share_ids(ids, short),
+    );
+    let after = done.graph;
+    let answer = done.reply;
+    match answer {
+        StepReply::Done => Outcome {
+            graph: after,
+            reply: Reply::Sorted,
+        },
+        StepReply::Refused(why) => Outcome {
+            graph: after,
+            reply: refused(why),
+        },
+    }
+}
+
+fn prune(
+    settings: Settings,
+    floats: &[f64],
+    numbers: &[u16],
+    stars: &mut [u16],
+    marks: &mut [bool],
+    ids: &[u32],
+    out: &mut [u16],
+) -> Outcome {
+    let graph = settings.graph;
+    let short = settings.short;
+    let length = settings.length;
+    let done = planar_graph::prune_dangles(
+        graph,
+        share_floats(floats, short),
+        share_numbers(numbers, short),
+        lend_stars(stars, short),
+        lend_marks(marks, short),
+        share_ids(ids, short),
+        first_numbers(out, length),
+    );
+    let after = done.graph;
+    let answer = done.reply;
+    match answer {
+        PruneReply::Dangles(count) => Outcome {
+            graph: after,
+            reply: Reply::Dangles(count),
+        },
+        PruneReply::Refused(why) => Outcome {
+            graph: after,
+            reply: refused(why),
+        },
+    }
+}
+
+fn cut(
+    settings: Settings,
+    floats: &[f64],
+    numbers: &[u16],
+    stars: &[u16],
+    marks: &mut [bool],
+    ids: &[u32],
+    out: &mut [u16],
+) -> Outcome {
+    let graph = settings.graph;
+    let short = settings.short;
+    let length = settings.length;
+    let done = planar_graph::delete_cut_edges(
+        graph,
+        share_floats(floats, short),
+        share_numbers(numbers, short),
+        share_stars(stars, short),
+        lend_marks(marks, short),
+        share_ids(ids, short),
+        first_numbers(out, length),
+    );
+    let after = done.graph;
+    let answer = done.reply;
+    match answer {
+        CutReply::Cuts(count, census) => Outcome {
+            graph: after,
+            reply: Reply::Cuts(count, census),
+        },
+        CutReply::Refused(why) => Outcome {
+            graph: after,
+            reply: refused(why),
+        },
+    }
+}
+
+fn reset(
+    settings: Settings,
+    floats: &[f64],
+    numbers: &[u16],
+    stars: &mut [u16],
+    marks: &mut [bool],
+    ids: &[u32],
+) -> Outcome {
+    let graph = settings.graph;
+    let short = settings.short;
+    let done = planar_graph::reset(
+        graph,
+        share_floats(floats, short),
+        share_numbers(numbers, short),
+        lend_stars(stars, short),
+        lend_marks(marks, short),
+        share_ids(ids, short),
+    );
+    let after = done.graph;
+    let answer = done.reply;
+    match answer {
+        StepReply::Done => Outcome {
+            graph: after,
+            reply: Reply::WasReset,
+        },
+        StepReply::Refused(why) => Outcome {
+            graph: after,
+            reply: refused(why),
+        },
+    }
+}
+
+// The entry that a line of the call list names, but for the extraction of rings; pruning and cutting list
+// edges in `out`.
+pub fn enter(
+    call: GraphCall,
+    settings: Settings,
+    floats: &mut [f64],
+    numbers: &mut [u16],
+    stars: &mut [u16],
+    marks: &mut [bool],
+    ids: &mut [u32],
+    out: &mut [u16],
+) -> Outcome {
+    match call {
+        GraphCall::Create => create(settings, floats, numbers, stars, marks, ids),
+        GraphCall::Add(line) => add(settings, line, floats, numbers, stars, marks, ids),
+        GraphCall::Sort => sort(settings, floats, numbers, stars, marks, ids),
+        GraphCall::Prune => prune(settings, floats, numbers, stars, marks, ids, out),
+        GraphCall::Cut => cut(settings, floats, numbers, stars, marks, ids, out),
+        GraphCall::Reset => reset(settings, floats, numbers, stars, marks, ids),
+    }
+}

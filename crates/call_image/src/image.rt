@@ -94,7 +94,7 @@ fn copy_marks(table: &[bool], at: usize, image: &mut [u64; IMAGE])
     }
 }
 
-pub fn copy_slices(
+fn copy_slices(
     floats: &[f64; FLOATS],
     numbers: &[u16; NUMBERS],
     stars: &[u16; STARS],
@@ -109,7 +109,7 @@ pub fn copy_slices(
     copy_ids(ids, IDS_AT, image);
 }
 
-pub fn copy_lists(
+fn copy_lists(
     half_edges: &[u16; MAX_HALF_EDGES],
     ring_first: &[u16; MAX_HALF_EDGES],
     ring_length: &[u16; MAX_HALF_EDGES],
@@ -124,6 +124,34 @@ pub fn copy_lists(
     copy_numbers(ring_face, FACE_AT, image);
     copy_sides(ring_side, SIDE_AT, image);
     copy_floats(ring_area, AREA_AT, image);
+}
+
+// The image of everything that a call is lent.
+pub fn image_of(
+    floats: &[f64; FLOATS],
+    numbers: &[u16; NUMBERS],
+    stars: &[u16; STARS],
+    marks: &[bool; MARKS],
+    ids: &[u32; IDS],
+    half_edges: &[u16; MAX_HALF_EDGES],
+    ring_first: &[u16; MAX_HALF_EDGES],
+    ring_length: &[u16; MAX_HALF_EDGES],
+    ring_face: &[u16; MAX_HALF_EDGES],
+    ring_side: &[u8; MAX_HALF_EDGES],
+    ring_area: &[f64; MAX_HALF_EDGES],
+) -> [u64; IMAGE] {
+    let mut image = [0u64; IMAGE];
+    copy_slices(floats, numbers, stars, marks, ids, &mut image);
+    copy_lists(
+        half_edges,
+        ring_first,
+        ring_length,
+        ring_face,
+        ring_side,
+        ring_area,
+        &mut image,
+    );
+    image
 }
 
 // Whether two images are alike from one place to another.

@@ -4,7 +4,6 @@ mod image;
 mod stays;
 
 pub use image::IMAGE;
-pub use image::copy_lists;
-pub use image::copy_slices;
+pub use image::image_of;
 pub use image::lesser;
 pub use stays::is_kept;

@@ -13,14 +13,13 @@ pub use numbers::Real;
 pub use numbers::count_of;
 pub use numbers::real_of;
 
-// A call of one of the graph's public entries.
+// A call of one of the graph's public entries but the extraction of rings, which is lent other lists.
 pub enum GraphCall {
     Create,
     Add(Line3D),
     Sort,
     Prune,
     Cut,
-    Rings,
     Reset,
 }
 
@@ -30,6 +29,7 @@ pub enum Call {
     Blank,
     Comment,
     Graph(GraphCall),
+    Rings,
     Show,
     State(u16, u16, u8),
     Set(usize, usize, Number),

@@ -123,7 +123,7 @@ fn read_plain(text: &[u8], at: usize, end: usize) -> Call
         return Call::Graph(GraphCall::Cut);
     }
     if is_word(text, at, end, b"rings") {
-        return Call::Graph(GraphCall::Rings);
+        return Call::Rings;
     }
     if is_word(text, at, end, b"reset") {
         return Call::Graph(GraphCall::Reset);

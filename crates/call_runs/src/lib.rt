@@ -3,13 +3,11 @@
 ghost use Prim.Native.Nat.{_≤_};
 ghost use lib.ListN.{length};
 
-mod damage;
 mod step;
 
 use crate::step::step;
-use call_entries::NO_SLICE;
-use call_entries::Settings;
-use call_image::IMAGE;
+use call_lending::NO_SLICE;
+use call_lending::Settings;
 use call_list::Call;
 use call_replies::say;
 use libc::STDIN_FILENO;
@@ -48,8 +46,6 @@ fn run(text: &[u8]) {
     let mut ring_face = [7u16; MAX_HALF_EDGES];
     let mut ring_side = [7u8; MAX_HALF_EDGES];
     let mut ring_area = [7.0; MAX_HALF_EDGES];
-    let mut before = [0u64; IMAGE];
-    let mut after = [0u64; IMAGE];
     let mut settings = Settings {
         graph: PlanarGraph {
             node_count: 0,
@@ -78,8 +74,6 @@ fn run(text: &[u8]) {
             &mut ring_face,
             &mut ring_side,
             &mut ring_area,
-            &mut before,
-            &mut after,
         );
         at = read.next;
     }

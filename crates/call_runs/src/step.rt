@@ -1,19 +1,12 @@
-// One line of the call list.
-use crate::damage::put_entry;
-use call_entries::NO_SLICE;
-use call_entries::Settings;
-use call_entries::enter;
-use call_entries::slice_of;
-use call_image::IMAGE;
-use call_image::copy_lists;
-use call_image::copy_slices;
-use call_image::is_kept;
+// One line of the call list: what it changes in the settings.
+use call_checking::perform;
+use call_checking::perform_rings;
+use call_damage::put_entry;
+use call_lending::NO_SLICE;
+use call_lending::Settings;
+use call_lending::slice_of;
 use call_list::Call;
-use call_list::GraphCall;
-use call_replies::end_line;
 use call_replies::say;
-use call_replies::say_reply;
-use call_replies::say_rings;
 use call_replies::show_state;
 use tables::FLOATS;
 use tables::IDS;
@@ -22,76 +15,6 @@ use tables::MAX_HALF_EDGES;
 use tables::NUMBERS;
 use tables::PlanarGraph;
 use tables::STARS;
-
-// Makes the call, compares everything with what stood there before, and prints the reply.
-fn perform(
-    call: GraphCall,
-    settings: Settings,
-    floats: &mut [f64; FLOATS],
-    numbers: &mut [u16; NUMBERS],
-    stars: &mut [u16; STARS],
-    marks: &mut [bool; MARKS],
-    ids: &mut [u32; IDS],
-    half_edges: &mut [u16; MAX_HALF_EDGES],
-    ring_first: &mut [u16; MAX_HALF_EDGES],
-    ring_length: &mut [u16; MAX_HALF_EDGES],
-    ring_face: &mut [u16; MAX_HALF_EDGES],
-    ring_side: &mut [u8; MAX_HALF_EDGES],
-    ring_area: &mut [f64; MAX_HALF_EDGES],
-    before: &mut [u64; IMAGE],
-    after: &mut [u64; IMAGE],
-) -> PlanarGraph {
-    copy_slices(floats, numbers, stars, marks, ids, before);
-    copy_lists(
-        half_edges,
-        ring_first,
-        ring_length,
-        ring_face,
-        ring_side,
-        ring_area,
-        before,
-    );
-    let done = enter(
-        call,
-        settings,
-        floats,
-        numbers,
-        stars,
-        marks,
-        ids,
-        half_edges,
-        ring_first,
-        ring_length,
-        ring_face,
-        ring_side,
-        ring_area,
-    );
-    copy_slices(floats, numbers, stars, marks, ids, after);
-    copy_lists(
-        half_edges,
-        ring_first,
-        ring_length,
-        ring_face,
-        ring_side,
-        ring_area,
-        after,
-    );
-    let old = settings.graph;
-    let new = done.graph;
-    let reply = done.reply;
-    say_reply(reply, half_edges);
-    end_line(is_kept(reply, old, new, before, after));
-    say_rings(
-        reply,
-        half_edges,
-        ring_first,
-        ring_length,
-        ring_face,
-        ring_side,
-        ring_area,
-    );
-    new
-}
 
 // A short slice is for one call only.
 fn with_graph(settings: Settings, graph: PlanarGraph, short: usize) -> Settings {
@@ -154,7 +77,7 @@ fn set_by(call: Call, settings: Settings) -> Settings {
     }
 }
 
-// What the line changes in the settings.
+// A line of either kind.
 pub fn step(
     call: Call,
     settings: Settings,
@@ -169,28 +92,43 @@ pub fn step(
     ring_face: &mut [u16; MAX_HALF_EDGES],
     ring_side: &mut [u8; MAX_HALF_EDGES],
     ring_area: &mut [f64; MAX_HALF_EDGES],
-    before: &mut [u64; IMAGE],
-    after: &mut [u64; IMAGE],
 ) -> Settings {
-    if let Call::Graph(entry) = call {
-        let new = perform(
-            entry,
-            settings,
-            floats,
-            numbers,
-            stars,
-            marks,
-            ids,
-            half_edges,
-            ring_first,
-            ring_length,
-            ring_face,
-            ring_side,
-            ring_area,
-            before,
-            after,
-        );
-        return with_graph(settings, new, NO_SLICE);
+    match call {
+        Call::Graph(entry) => {
+            let new = perform(
+                entry,
+                settings,
+                floats,
+                numbers,
+                stars,
+                marks,
+                ids,
+                half_edges,
+                ring_first,
+                ring_length,
+                ring_face,
+                ring_side,
+                ring_area,
+            );
+            with_graph(settings, new, NO_SLICE)
+        }
+        Call::Rings => {
+            let new = perform_rings(
+                settings,
+                floats,
+                numbers,
+                stars,
+                marks,
+                ids,
+                half_edges,
+                ring_first,
+                ring_length,
+                ring_face,
+                ring_side,
+                ring_area,
+            );
+            with_graph(settings, new, NO_SLICE)
+        }
+        _ => prepare(call, settings, floats, numbers, stars, marks, ids),
     }
-    prepare(call, settings, floats, numbers, stars, marks, ids)
 }

@@ -6,10 +6,10 @@ use Rattle.call_runs.proofs.run.Statement.{statement}
 use Rattle.call_runs.proofs.run.Tie as tie
 
 abbrev Inv-loop : tie.InvT-loop
-Inv-loop text floats₀ numbers₀ stars₀ marks₀ ids₀ half-edges₀ ring-first₀ ring-length₀ ring-face₀ ring-side₀ ring-area₀ before₀ after₀ settings₀ at₀ floats numbers stars marks ids half-edges ring-first ring-length ring-face ring-side ring-area before after settings at = Unit {0}
+Inv-loop text floats₀ numbers₀ stars₀ marks₀ ids₀ half-edges₀ ring-first₀ ring-length₀ ring-face₀ ring-side₀ ring-area₀ settings₀ at₀ floats numbers stars marks ids half-edges ring-first ring-length ring-face ring-side ring-area settings at = Unit {0}
 
 abbrev μ-loop : tie.MeasureT-loop
-μ-loop text floats₀ numbers₀ stars₀ marks₀ ids₀ half-edges₀ ring-first₀ ring-length₀ ring-face₀ ring-side₀ ring-area₀ before₀ after₀ settings₀ at₀ floats numbers stars marks ids half-edges ring-first ring-length ring-face ring-side ring-area before after settings at = length text - at
+μ-loop text floats₀ numbers₀ stars₀ marks₀ ids₀ half-edges₀ ring-first₀ ring-length₀ ring-face₀ ring-side₀ ring-area₀ settings₀ at₀ floats numbers stars marks ids half-edges ring-first ring-length ring-face ring-side ring-area settings at = length text - at
 
 loop-holds : tie.Need-loop-holds Inv-loop μ-loop
 loop-holds c = tt
@@ -25,7 +25,7 @@ step-requires c κs = tt
 
 loop-less : tie.Need-loop-less Inv-loop μ-loop
 loop-less c =
-    let k = c .before .before .before .before .before .before .before .before .before .before .before .before .before .before .before in
+    let k = c .before .before .before .before .before .before .before .before .before .before .before .before .before in
     let e = k .read-call .ensures (k .before .loop-test .taken) in
     omega arith
 
