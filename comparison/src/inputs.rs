@@ -3,7 +3,7 @@
 use crate::random::Random;
 use oracle::calls::Line;
 use oracle::original::{Coord3D, Line3D};
-use oracle::state::{Call, EDGE_LIMIT, LIST_LENGTH, NODE_LIMIT};
+use oracle::state::{Call, EDGE_LIMIT, LIST_END, LIST_LENGTH, NODE_LIMIT, PAIR_LIMIT, TABLES};
 
 /// The coordinate bound.
 pub const BOUND: i32 = 1_048_576;
@@ -149,6 +149,17 @@ pub fn shuffled(mut segments: Vec<Segment>, random: &mut Random) -> Vec<Segment>
 
 // ---- call lists
 
+/// Tables by their numbers in a call list.
+pub const DEGREES: usize = 3;
+pub const LINE_IDS: usize = 6;
+pub const SOURCES: usize = 7;
+pub const TARGETS: usize = 8;
+pub const HALF_MARKS: usize = 9;
+pub const STARS: usize = 10;
+pub const LIST_PLACES: usize = 11;
+pub const PAIR_IDS: usize = 12;
+pub const LINKS: usize = 13;
+
 pub const STEPS: [Call; 4] = [Call::Sort, Call::Prune, Call::Cut, Call::Rings];
 
 pub fn segment_line([[x1, y1], [x2, y2]]: Segment, line_id: u32) -> Line3D {
@@ -159,11 +170,37 @@ pub fn segment_line([[x1, y1], [x2, y2]]: Segment, line_id: u32) -> Line3D {
     }
 }
 
+pub fn addition(segment: Segment, line_id: u32) -> Call {
+    Call::Add(segment_line(segment, line_id))
+}
+
+/// A whole number into an entry of a table.
+pub fn set(table: usize, place: usize, value: usize) -> Line {
+    Line::Set(table, place, value as f64)
+}
+
+/// A new graph, and these calls.
+pub fn from_new(calls: impl IntoIterator<Item = Call>) -> Vec<Line> {
+    let create = [Call::Create];
+    create.into_iter().chain(calls).map(Line::Call).collect()
+}
+
 /// A new graph with these segments.
 pub fn traced(segments: &[Segment]) -> Vec<Line> {
     let lines = segments.iter().zip(1..);
-    let adds = lines.map(|(&segment, id)| Line::Call(Call::Add(segment_line(segment, id))));
-    [Line::Call(Call::Create)].into_iter().chain(adds).collect()
+    from_new(lines.map(|(&segment, id)| addition(segment, id)))
+}
+
+/// So many passes over a map, either way round, with any ids below a limit.
+pub fn any_passes(count: usize, map: &[Segment], ids: usize, random: &mut Random) -> Vec<Line3D> {
+    let mut pass = || {
+        let mut segment = random.pick(map);
+        if random.once_in(2) {
+            segment.reverse();
+        }
+        segment_line(segment, random.below(ids) as u32)
+    };
+    (0..count).map(|_| pass()).collect()
 }
 
 /// A new graph with these segments, all steps, a reset, and all steps again.
@@ -207,7 +244,17 @@ fn bad_coordinate(random: &mut Random) -> f64 {
     ])
 }
 
-/// A line between points of a small square, with any z and either zero; now and then a bad one.
+/// Any line id, mostly one of a few.
+fn any_id(random: &mut Random) -> u32 {
+    match random.below(4) {
+        0 => random.bits() as u32,
+        1 => random.pick(&[0, u32::MAX]),
+        _ => random.below(6) as u32,
+    }
+}
+
+/// A line between points of a small square, with any z, either zero and any id; now and then a bad
+/// one.
 pub fn any_line(size: usize, random: &mut Random) -> Line3D {
     let point = |random: &mut Random| {
         let whole = |random: &mut Random| match random.below(size + 1) {
@@ -219,7 +266,7 @@ pub fn any_line(size: usize, random: &mut Random) -> Line3D {
     let mut line = Line3D {
         start: point(random),
         end: point(random),
-        line_id: random.bits() as u32,
+        line_id: any_id(random),
     };
     if random.once_in(16) {
         let bad = bad_coordinate(random);
@@ -241,7 +288,7 @@ pub fn any_calls(length: usize, random: &mut Random) -> Vec<Line> {
     let mut stage = 0;
     for _ in 0..length {
         if random.once_in(25) {
-            lines.push(Line::Short(random.below(11)));
+            lines.push(Line::Short(random.below(TABLES)));
         }
         if random.once_in(25) {
             lines.push(Line::List(random.below(12)));
@@ -267,8 +314,32 @@ pub fn any_calls(length: usize, random: &mut Random) -> Vec<Line> {
     lines
 }
 
+/// The most ids that each edge of sound tables has: with any number of edges there is space.
+const IDS_AN_EDGE: usize = PAIR_LIMIT / EDGE_LIMIT;
+
+/// A list of line ids for each of so many edges, its pairs anywhere in the part of the table that so
+/// many edges can fill.
+fn sound_lists(edges: usize, random: &mut Random) -> Vec<Line> {
+    let mut lines = Vec::new();
+    let mut places: Vec<usize> = (0..IDS_AN_EDGE * edges).collect();
+    random.shuffle(&mut places);
+    for edge in 0..edges {
+        let count = 1 + random.below(IDS_AN_EDGE);
+        let mut list = places.split_off(places.len() - count);
+        let mut id = random.below(9);
+        lines.extend([set(LINE_IDS, edge, id), set(LIST_PLACES, edge, list[0])]);
+        list.push(LIST_END.into());
+        for pair in list.windows(2) {
+            lines.extend([set(PAIR_IDS, pair[0], id), set(LINKS, pair[0], pair[1])]);
+            id += 1 + random.below(4);
+        }
+    }
+    lines
+}
+
 /// Sound tables in any stage, such as additions may not make: nodes at one place, several edges
-/// between two nodes, stars in any order, any marks and degrees from stage 2 on.
+/// between two nodes, stars in any order, line ids anywhere in their table, any marks and degrees from
+/// stage 2 on.
 pub fn sound_tables(nodes: usize, edges: usize, random: &mut Random) -> Vec<Line> {
     let stage = random.below(5);
     let mut lines = vec![Line::Graph([nodes as u16, edges as u16, stage as u16])];
@@ -291,7 +362,6 @@ pub fn sound_tables(nodes: usize, edges: usize, random: &mut Random) -> Vec<Line
         for place in 6 * edge..6 * edge + 6 {
             set(5, place, any_z(random));
         }
-        set(6, edge, random.below(9) as f64);
     }
     for (node, &degree) in degrees.iter().enumerate() {
         let end = any_line(3, random).end;
@@ -311,7 +381,23 @@ pub fn sound_tables(nodes: usize, edges: usize, random: &mut Random) -> Vec<Line
         );
         set(4, node, f64::from(u8::from(free && random.once_in(3))));
     }
+    lines.extend(sound_lists(edges, random));
     lines
+}
+
+/// What can be damaged of the lists of line ids, for a graph of so many edges.
+pub fn any_list_damage(edges: usize, random: &mut Random) -> Line {
+    let edge = random.below(edges.max(1));
+    let [pair, other] = [0; 2].map(|_| random.below(2 * edges.max(1)));
+    let (any, end) = (random.below(65_536), usize::from(LIST_END));
+    let link = random.pick(&[other, other, other, any, PAIR_LIMIT, end - 1, end, end]);
+    let id = random.below(12);
+    random.pick(&[
+        set(LINE_IDS, edge, id),
+        set(LIST_PLACES, edge, link),
+        set(PAIR_IDS, pair, id),
+        set(LINKS, pair, link),
+    ])
 }
 
 /// What can be damaged, for a graph of these counts.
@@ -330,7 +416,7 @@ pub fn any_damage(nodes: usize, edges: usize, random: &mut Random) -> Vec<Line> 
     };
     let (n, e) = (nodes as u16, edges as u16);
     let any_stage = random.pick(&[0, 1, 2, 3, 4, 5, 255, 256, 257, 260, 512, 65_535]);
-    match random.below(13) {
+    match random.below(15) {
         0 => vec![Line::Graph([count(NODE_LIMIT, random), e, any_stage % 5])],
         1 => vec![Line::Graph([n, count(EDGE_LIMIT, random), any_stage % 5])],
         2 => vec![Line::Graph([n, e, any_stage])],
@@ -350,6 +436,7 @@ pub fn any_damage(nodes: usize, edges: usize, random: &mut Random) -> Vec<Line> 
         )],
         10 => vec![Line::Set(3, node, number(random))],
         11 => vec![Line::Set(4, node, flag)],
+        12 | 13 => vec![any_list_damage(edges, random)],
         _ => vec![Line::Set(random.below(2), node, bad_coordinate(random))],
     }
 }

@@ -3,6 +3,7 @@
 //! Both sides start from tables and lists that hold other things. After every call the replies,
 //! the counts and the stage, and every entry of every table and list are compared, written or not.
 
+pub mod files;
 pub mod inputs;
 pub mod random;
 
@@ -13,9 +14,8 @@ pub use library::{answer, answer_file, front, lend_lists, Library};
 pub use slices::{Packed, Slice};
 
 use oracle::calls::{self, Line};
-use oracle::rules;
 use oracle::state::{Call, Lent, Reply, Side, State};
-use oracle::Oracle;
+use oracle::{line_ids, rules, Oracle};
 use std::fmt::Write;
 
 /// How many call lists and calls were compared; how many calls were refused, and how many
@@ -101,6 +101,16 @@ impl Comparison {
             None => Ok(oracle),
         }
     }
+
+    /// Makes a call that has to leave every entry on both sides, refused or not; the reply.
+    pub fn call_in_vain(&mut self, call: &Call) -> Reply {
+        let before = self.states().map(State::clone);
+        let reply = self.call(call, &Lent::FULL).expect("no difference");
+        for (state, before) in self.states().into_iter().zip(before) {
+            assert_eq!(state.difference(&before), None, "{call:?} {reply:?}");
+        }
+        reply
+    }
 }
 
 /// What the sides differ in after a call.
@@ -118,6 +128,11 @@ fn difference(replies: [Reply; 2], library: &Library, oracle: &Oracle) -> Option
     if matches!(oracle_reply, Reply::Refused(_)) {
         return None;
     }
+    star_difference(library, oracle).or_else(|| line_id_difference(library, oracle))
+}
+
+/// Whether the library's stars are those of the original, which has no table of them.
+fn star_difference(library: &Library, oracle: &Oracle) -> Option<String> {
     let stars = library.state().stars();
     let same = stars.len() == oracle.stars().len()
         && stars.iter().zip(oracle.stars()).all(|(star, original)| {
@@ -126,6 +141,16 @@ fn difference(replies: [Reply; 2], library: &Library, oracle: &Oracle) -> Option
                 .eq(original.iter().copied())
         });
     (!same).then(|| format!("stars {stars:?} and {:?}", oracle.stars()))
+}
+
+/// Whether the library's lists of line ids are what each edge must have, wherever their pairs stand.
+fn line_id_difference(library: &Library, oracle: &Oracle) -> Option<String> {
+    let state = library.state();
+    (0..usize::from(state.edges)).find_map(|edge| {
+        let must = &oracle.line_ids()[edge];
+        let same = line_ids::ids(edge, &state.tables).eq(must.iter().copied());
+        (!same).then(|| format!("edge {edge} has not the line ids {must:?}"))
+    })
 }
 
 /// Tables and lists that hold other things in every entry, none of them a sound value.
@@ -148,6 +173,9 @@ pub fn filled() -> State {
     tables.dir_edges_dst.fill(0xdddd);
     tables.dir_edges_marked.fill(true);
     tables.nodes_outgoing.fill(0xdddd);
+    tables.edges_list_place.fill(0xdddd);
+    tables.pairs_id.fill(0xdddd_dddd);
+    tables.pairs_next.fill(0xdddd);
     let lists = &mut state.lists;
     lists.edges.fill(0xeeee);
     lists.half_edges.fill(0xeeee);

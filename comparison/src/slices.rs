@@ -1,4 +1,4 @@
-//! The oracle's eleven tables as the five slices that the library is lent.
+//! The oracle's fourteen tables as the five slices that the library is lent.
 //!
 //! The last region of a slice takes its table whole, so that a longer table makes a longer slice. Of
 //! the other tables so many entries are lent as their region has; those past it stay where they are.
@@ -6,8 +6,9 @@
 use oracle::state::{Lent, Tables};
 use tukmiheb::entries::Slices;
 use tukmiheb::layout::{
-    DEGREES, FLOATS, HALF_EDGE_LIMIT, HALF_EDGE_MARKS, IDS, MARKS, NODES_X, NODES_Y, NODES_Z,
-    NODE_LIMIT, NODE_MARKS, NUMBERS, OUTGOING, SEGMENTS, SOURCES, STARS, TARGETS,
+    DEGREES, EDGE_LIMIT, FLOATS, HALF_EDGE_LIMIT, HALF_EDGE_MARKS, IDS, LINE_IDS, LINKS,
+    LIST_PLACES, MARKS, NODES_X, NODES_Y, NODES_Z, NODE_LIMIT, NODE_MARKS, NUMBERS, OUTGOING,
+    PAIR_IDS, SEGMENTS, SOURCES, STARS, TARGETS,
 };
 
 /// The five slices, by name.
@@ -35,8 +36,8 @@ impl Slice {
             0 | 1 | 2 | 5 => Slice::Floats,
             3 | 10 => Slice::Stars,
             4 | 9 => Slice::Marks,
-            6 => Slice::Ids,
-            7 | 8 => Slice::Numbers,
+            6 | 12 => Slice::Ids,
+            7 | 8 | 11 | 13 => Slice::Numbers,
             _ => panic!("there is no table {table}"),
         }
     }
@@ -91,7 +92,9 @@ impl Packed {
             .concat(),
             numbers: [
                 &tables.dir_edges_src[..HALF_EDGE_LIMIT],
-                &tables.dir_edges_dst,
+                &tables.dir_edges_dst[..HALF_EDGE_LIMIT],
+                &tables.edges_list_place[..EDGE_LIMIT],
+                &tables.pairs_next,
             ]
             .concat(),
             stars: [
@@ -100,7 +103,7 @@ impl Packed {
             ]
             .concat(),
             marks: marks.concat().into_iter().map(u8::from).collect(),
-            ids: tables.edges_line_id.clone(),
+            ids: [&tables.edges_line_id[..EDGE_LIMIT], &tables.pairs_id].concat(),
         }
     }
 
@@ -108,20 +111,24 @@ impl Packed {
     /// be 0 or 1, since the tables gave no other.
     pub fn unpack(&self, tables: &mut Tables) {
         let (floats, numbers, stars) = (&self.floats, &self.numbers, &self.stars);
+        let ids = &self.ids;
         let marks: Vec<bool> = self.marks.iter().map(|&byte| flag(byte.into())).collect();
         tables.nodes_x[..NODE_LIMIT].copy_from_slice(&floats[NODES_X..NODES_Y]);
         tables.nodes_y[..NODE_LIMIT].copy_from_slice(&floats[NODES_Y..NODES_Z]);
         tables.nodes_z[..NODE_LIMIT].copy_from_slice(&floats[NODES_Z..SEGMENTS]);
         tables.edges_line.copy_from_slice(&floats[SEGMENTS..]);
         tables.dir_edges_src[..HALF_EDGE_LIMIT].copy_from_slice(&numbers[SOURCES..TARGETS]);
-        tables.dir_edges_dst.copy_from_slice(&numbers[TARGETS..]);
+        tables.dir_edges_dst[..HALF_EDGE_LIMIT].copy_from_slice(&numbers[TARGETS..LIST_PLACES]);
+        tables.edges_list_place[..EDGE_LIMIT].copy_from_slice(&numbers[LIST_PLACES..LINKS]);
+        tables.pairs_next.copy_from_slice(&numbers[LINKS..]);
         tables.nodes_outgoing[..HALF_EDGE_LIMIT].copy_from_slice(&stars[OUTGOING..DEGREES]);
         tables.nodes_degree.copy_from_slice(&stars[DEGREES..]);
         tables.nodes_marked[..NODE_LIMIT].copy_from_slice(&marks[NODE_MARKS..HALF_EDGE_MARKS]);
         tables
             .dir_edges_marked
             .copy_from_slice(&marks[HALF_EDGE_MARKS..]);
-        tables.edges_line_id.copy_from_slice(&self.ids);
+        tables.edges_line_id[..EDGE_LIMIT].copy_from_slice(&ids[LINE_IDS..PAIR_IDS]);
+        tables.pairs_id.copy_from_slice(&ids[PAIR_IDS..]);
     }
 
     /// The slices as they are lent: whole, but for the one that holds a short table.

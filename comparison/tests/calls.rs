@@ -125,12 +125,15 @@ fn longer_tables() {
         &mut tables.dir_edges_src,
         &mut tables.dir_edges_dst,
         &mut tables.nodes_outgoing,
+        &mut tables.edges_list_place,
+        &mut tables.pairs_next,
     ] {
         table.extend([7; 9]);
     }
     tables.nodes_marked.extend([true; 9]);
     tables.dir_edges_marked.extend([true; 9]);
     tables.edges_line_id.extend([7; 9]);
+    tables.pairs_id.extend([7; 9]);
     let mut both = Comparison::over(state);
     both.run(&inputs::whole_run(&inputs::grid(22, 22, 1)));
     both.run(&inputs::whole_run(&inputs::complete(46)));

@@ -1,73 +1,11 @@
-//! A segment file in one call of the library, beside the oracle that adds its records one by one: how
-//! many were taken, what ended it, the counts and the stage, and every entry of every table.
+//! A segment file in one call of the library, beside the oracle that adds its records one by one.
 
+use comparison::files::{compare, empty, records};
 use comparison::inputs::{self, Segment, BOUND, STEPS};
 use comparison::random::Random;
-use comparison::{answer_file, Packed};
-use oracle::listing;
 use oracle::original::Line3D;
-use oracle::state::{Call, Lent, Reply, Side, State};
+use oracle::state::{Lent, Side, TABLES};
 use oracle::Oracle;
-
-/// How many records were taken and the number of what ended it, or the refusal of the call.
-type Answer = Result<[u64; 2], u32>;
-
-fn add_file(state: &mut State, bytes: &[u8], lent: &Lent) -> Answer {
-    let mut small = [state.nodes, state.edges, state.stage];
-    let mut packed = Packed::of(&state.tables);
-    let answered = answer_file(bytes, &mut small, &mut packed.lend(lent));
-    packed.unpack(&mut state.tables);
-    [state.nodes, state.edges, state.stage] = small;
-    answered.map_err(|refusal| refusal.number())
-}
-
-fn add_lines(oracle: &mut Oracle, bytes: &[u8], lent: &Lent) -> Answer {
-    // Sorting makes the same tests of the state: 6, 7 and 5, with stage 0.
-    let mut sorting = Oracle::over(oracle.state().clone());
-    if let Reply::Refused(number) = sorting.call(&Call::Sort, lent) {
-        return Err(number);
-    }
-    let mut taken = 0;
-    for line in listing::records(bytes) {
-        let refused = match line.map(|line| oracle.call(&Call::Add(line), lent)) {
-            Err(refusal) => refusal.number(),
-            Ok(Reply::Refused(number)) => number,
-            Ok(_) => {
-                taken += 1;
-                continue;
-            }
-        };
-        return Ok([taken, refused.into()]);
-    }
-    Ok([taken, 0])
-}
-
-/// The answer of both sides to a file, and the state that they leave.
-fn compare(state: &State, bytes: &[u8], lent: &Lent) -> (Answer, State) {
-    let mut library = state.clone();
-    let mut oracle = Oracle::over(state.clone());
-    let answer = add_file(&mut library, bytes, lent);
-    assert_eq!(answer, add_lines(&mut oracle, bytes, lent), "{bytes:?}");
-    assert_eq!(library.difference(oracle.state()), None, "{bytes:?}");
-    if answer.is_err() {
-        assert_eq!(library.difference(state), None, "{bytes:?}");
-    }
-    (answer, library)
-}
-
-/// An empty graph over tables that hold other things.
-fn empty() -> State {
-    let mut state = comparison::filled();
-    [state.nodes, state.edges, state.stage] = [0; 3];
-    state
-}
-
-fn records(lines: impl IntoIterator<Item = Line3D>) -> Vec<u8> {
-    lines
-        .into_iter()
-        .flat_map(|line| listing::record(&line))
-        .collect()
-}
 
 fn file(map: &[Segment]) -> Vec<u8> {
     records(
@@ -157,7 +95,7 @@ fn refused_calls() {
     let lines = file(&inputs::grid(2, 2, 1));
     let (_, built) = compare(&empty(), &lines, &Lent::FULL);
     for bytes in [&lines[..], &lines[..50], &[]] {
-        for table in 0..11 {
+        for table in 0..TABLES {
             let lent = Lent {
                 short: Some(table),
                 ..Lent::FULL
@@ -179,7 +117,7 @@ fn refused_calls() {
 #[test]
 fn any_files() {
     let mut random = Random::new(13);
-    let mut numbers = [0; 12];
+    let mut numbers = [0; 13];
     for _ in 0..3000 {
         let mut state = empty();
         for _ in 0..3 {

@@ -4,7 +4,7 @@ use comparison::inputs::{self, Segment, STEPS};
 use comparison::random::Random;
 use comparison::{answer, answer_file, lend_lists, Packed, Slice};
 use oracle::calls::{self, Line};
-use oracle::state::{Call, Lent, Lists, Reply, Side, State};
+use oracle::state::{Call, Lent, Lists, Reply, Side, State, TABLES};
 use oracle::{listing, Oracle};
 use std::ops::RangeInclusive;
 use tukmiheb::layout::{HALF_EDGE_MARKS, NODE_MARKS};
@@ -214,7 +214,7 @@ fn order_of_refusals() {
         let before = held.clone();
         let lists = Lent::of_length(0);
         for asked in bad_calls() {
-            for table in 0..11 {
+            for table in 0..TABLES {
                 let short = Some(table);
                 let refusal = held.refusal(&asked, &Lent { short, ..lists });
                 assert_eq!(refusal, Some(6), "{asked:?}, short {table}");

@@ -7,7 +7,7 @@
 //! reset                        resets
 //! show                         prints the state; calls nothing
 //! graph NODES EDGES STAGE      sets the counts and the stage (damage)
-//! set TABLE PLACE VALUE        sets an entry of a table, 0 to 10 in their order (damage)
+//! set TABLE PLACE VALUE        sets an entry of a table, 0 to 13 in their order (damage)
 //! short TABLE                  the next call is lent the slice with this table one entry short
 //! list LENGTH                  from now on the result lists are lent with this many entries
 //! ```
@@ -15,8 +15,9 @@
 //! A float is a whole number (`-0` is -0.0) or `x` and the 16 hexadecimal digits of its bits. A
 //! line that starts with `#` is printed as it is.
 
+use crate::line_ids;
 use crate::original::{Coord3D, Line3D};
-use crate::state::{Call, Census, Lent, Reply, Side, State, Tables, LIST_LENGTH};
+use crate::state::{Call, Census, Lent, Reply, Side, State, Tables, LIST_LENGTH, TABLES};
 use std::fmt::{self, Display, Formatter, Write};
 use std::str::FromStr;
 
@@ -123,6 +124,9 @@ fn set_entry(tables: &mut Tables, table: usize, place: usize, value: f64) -> Opt
         8 => *tables.dir_edges_dst.get_mut(place)? = short?,
         9 => *tables.dir_edges_marked.get_mut(place)? = flag?,
         10 => *tables.nodes_outgoing.get_mut(place)? = short?,
+        11 => *tables.edges_list_place.get_mut(place)? = short?,
+        12 => *tables.pairs_id.get_mut(place)? = number?,
+        13 => *tables.pairs_next.get_mut(place)? = short?,
         _ => return None,
     }
     Some(())
@@ -200,9 +204,12 @@ fn shown(state: &State) -> String {
         let marked = [2 * edge, 2 * edge + 1].map(|half| tables.dir_edges_marked[half].into());
         let id = tables.edges_line_id[edge];
         let (ends, marked) = (spaced(&ends), spaced(&marked));
+        let ids: String = line_ids::ids(edge, tables)
+            .map(|id| format!(" {id}"))
+            .collect();
         let _ = writeln!(
             out,
-            "edge {edge} line{line} id {id} ends{ends} marked{marked}"
+            "edge {edge} line{line} id {id} ends{ends} marked{marked} ids{ids}"
         );
     }
     out
@@ -314,7 +321,7 @@ impl FromStr for Line {
             ["set", table, place, value] => {
                 Line::Set(whole(table)?, whole(place)?, value.parse::<Word>()?.0)
             }
-            ["short", table] => Line::Short(below(11, whole(table)?)?),
+            ["short", table] => Line::Short(below(TABLES, whole(table)?)?),
             ["list", length] => Line::List(below(LIST_LENGTH + 1, whole(length)?)?),
             _ => return Err(format!("no call: {line}")),
         })

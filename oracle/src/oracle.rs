@@ -1,11 +1,13 @@
 //! The oracle: it answers a call by document 01's refusals, and else by the original's methods.
 
+use crate::line_ids;
 use crate::original::steps::{self, Ring};
 use crate::original::{Coord3D, DirectedEdge, Edge, Line3D, NodeKey, PlanarGraph};
 use crate::rotation::least_rotation;
 use crate::rules::{self, Named};
 use crate::stand_ins::{Coord, EdgeSources};
 use crate::state::{Call, Lent, Lists, Reply, Side, State, Tables};
+use std::collections::BTreeSet;
 
 /// The original's graph, and the state in the library's tables.
 ///
@@ -16,6 +18,7 @@ pub struct Oracle {
     state: State,
     written: bool,
     named: Vec<Named>,
+    line_ids: Vec<BTreeSet<u32>>,
 }
 
 impl Default for Oracle {
@@ -32,6 +35,7 @@ impl Oracle {
             state,
             written: true,
             named: Vec::new(),
+            line_ids: Vec::new(),
         }
     }
 
@@ -46,11 +50,18 @@ impl Oracle {
         &self.named
     }
 
+    /// The ids that each edge must have: those of the accepted additions that made or found it. It
+    /// knows of no places.
+    pub fn line_ids(&self) -> &[BTreeSet<u32>] {
+        &self.line_ids
+    }
+
     fn step(&mut self, call: &Call) -> Reply {
         let lists = &mut self.state.lists;
         match *call {
             Call::Create => {
                 self.graph = PlanarGraph::new();
+                self.line_ids.clear();
                 Reply::Created
             }
             Call::Add(line) => add(&mut self.graph, line),
@@ -83,6 +94,23 @@ impl Oracle {
             }
         }
     }
+
+    /// Puts an addition's id behind its edge: into the set, and where it is new there into the tables.
+    /// Then the original's list has to be the same.
+    fn put_line_id(&mut self, edge: usize, id: u32, old_edges: usize) {
+        let tables = &mut self.state.tables;
+        self.line_ids
+            .resize_with(self.graph.edges.len(), BTreeSet::new);
+        let behind = &mut self.line_ids[edge];
+        if behind.insert(id) {
+            line_ids::enter(edge, id, old_edges, tables);
+        }
+        let listed: Vec<u32> = line_ids::ids(edge, tables).collect();
+        assert!(behind.iter().eq(&listed), "{behind:?} as {listed:?}");
+        let original = &self.graph.edges[edge];
+        assert_eq!(original.sources.line_ids, listed, "another list");
+        assert_eq!(original.line.line_id, listed[0], "not the lowest id");
+    }
 }
 
 impl Side for Oracle {
@@ -102,13 +130,20 @@ impl Side for Oracle {
         let written = std::mem::take(&mut self.written);
         if written && !matches!(call, Call::Create) {
             self.graph = filled(&self.state);
+            let listed = |edge: &Edge| edge.sources.line_ids.iter().copied().collect();
+            self.line_ids = self.graph.edges.iter().map(listed).collect();
         }
         let old_edges = self.graph.edges.len();
         let reply = self.step(call);
         store(&self.graph, &mut self.state);
         match call {
             Call::Create | Call::Reset => self.state.stage = 0,
-            Call::Add(_) => put_new_stars(old_edges, &mut self.state),
+            Call::Add(line) => {
+                put_new_stars(old_edges, &mut self.state);
+                if let Reply::Edge { edge, .. } = reply {
+                    self.put_line_id(edge.into(), line.line_id, old_edges);
+                }
+            }
             Call::Sort => put_sorted_stars(&self.graph, &mut self.state),
             Call::Prune | Call::Cut | Call::Rings => self.state.stage += 1,
         }
@@ -241,14 +276,17 @@ fn filled_edge(edge: usize, tables: &Tables) -> Edge {
             end: Coord3D::new(at(3), at(4), at(5)),
             line_id,
         },
-        sources: EdgeSources::from_line_id(line_id),
+        sources: EdgeSources {
+            line_ids: line_ids::ids(edge, tables).collect(),
+        },
         dir_edges: [2 * edge, 2 * edge + 1],
         is_marked: false,
         deleted: false,
     }
 }
 
-/// Writes the graph into the tables, all but the stars. Entries past its own keep their contents.
+/// Writes the graph into the tables, all but the stars and the lists of line ids. Entries past its own
+/// keep their contents.
 fn store(graph: &PlanarGraph, state: &mut State) {
     let tables = &mut state.tables;
     state.nodes = graph.nodes_x.len() as u16;

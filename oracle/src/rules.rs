@@ -1,6 +1,8 @@
-//! Document 01's own rules, which the original has not: refusals 1 to 11 in their order, the
-//! stages, room, the soundness list, and ties in face naming.
+//! The documents' own rules, which the original has not: refusals 1 to 12 in their order, the stages,
+//! room, the soundness list, and ties in face naming. Number 12, and the lists of line ids in the
+//! soundness list, are request §1's; all else is document 01's.
 
+use crate::line_ids;
 use crate::original::{canonical_coordinate_bits, compare_angular, Coord3D, Line3D};
 use crate::stand_ins::Coord;
 use crate::state::{Call, Lent, State, EDGE_LIMIT, LEAST_LENGTHS, NODE_LIMIT};
@@ -14,7 +16,7 @@ const RECORD_BYTES: usize = 58;
 const RECORD_LENGTH: u32 = 54;
 const SEGMENT_KIND: u16 = 1;
 
-/// Why a call is refused, by document 01's numbers.
+/// Why a call is refused, by the documents' numbers.
 #[derive(Clone, Copy, Debug, PartialEq, Eq)]
 pub enum Refusal {
     NotWhole = 1,
@@ -28,6 +30,7 @@ pub enum Refusal {
     RecordShort = 9,
     RecordLength = 10,
     RecordKind = 11,
+    TooManyPairs = 12,
 }
 
 impl Refusal {
@@ -80,21 +83,30 @@ fn check_lists(least: u16, lengths: &[usize]) -> Checked {
     demand(long, Refusal::ListTooShort)
 }
 
-/// Numbers 1 and 2; an edge that is there already; numbers 3 and 4.
+/// Numbers 1 and 2; an edge that is there already, which needs a pair for an id that it lacks; numbers
+/// 3 and 4 of a new one, which needs a pair too. Number 12 comes last either way.
 fn check_line(line: &Line3D, state: &State) -> Checked {
     let planar = is_planar(line.start) && is_planar(line.end);
     demand(planar, Refusal::NotWhole)?;
     demand(key(line.start) != key(line.end), Refusal::SameNode)?;
     let ends = [find_node(line.start, state), find_node(line.end, state)];
     if let [Some(start), Some(end)] = ends {
-        if joins(start, end, state) {
-            return Ok(());
+        if let Some(edge) = joining(start, end, state) {
+            let known = line_ids::ids(edge, &state.tables).any(|id| id == line.line_id);
+            return if known { Ok(()) } else { check_pair(state) };
         }
     }
     let missing = ends.iter().filter(|end| end.is_none()).count();
     let nodes = usize::from(state.nodes) + missing;
     demand(nodes <= NODE_LIMIT, Refusal::TooManyNodes)?;
-    demand(usize::from(state.edges) < EDGE_LIMIT, Refusal::TooManyEdges)
+    demand(usize::from(state.edges) < EDGE_LIMIT, Refusal::TooManyEdges)?;
+    check_pair(state)
+}
+
+/// Number 12: the pair table has a free place.
+fn check_pair(state: &State) -> Checked {
+    let free = line_ids::lowest_free(state.edges.into(), &state.tables);
+    demand(free.is_some(), Refusal::TooManyPairs)
 }
 
 fn is_planar(point: Coord3D) -> bool {
@@ -123,13 +135,16 @@ fn find_node(point: Coord3D, state: &State) -> Option<usize> {
     })
 }
 
-/// Whether an edge joins two nodes, either way round.
-fn joins(start: usize, end: usize, state: &State) -> bool {
+/// The edge that joins two nodes, either way round: of several the first in the start's star.
+fn joining(start: usize, end: usize, state: &State) -> Option<usize> {
     let tables = &state.tables;
-    (0..2 * usize::from(state.edges)).any(|half_edge| {
+    let used = &tables.nodes_outgoing[..2 * usize::from(state.edges)];
+    let mut half_edges = used.iter().map(|&half_edge| usize::from(half_edge));
+    let joining = half_edges.find(|&half_edge| {
         usize::from(tables.dir_edges_src[half_edge]) == start
             && usize::from(tables.dir_edges_dst[half_edge]) == end
-    })
+    });
+    joining.map(|half_edge| half_edge / 2)
 }
 
 /// Number 6.
@@ -148,6 +163,7 @@ pub fn is_sound(state: &State) -> bool {
         && sound_stars(edges, state)
         && (0..nodes).all(|node| sound_point(node, state))
         && (state.stage > 1 || is_fresh(nodes, edges, state))
+        && line_ids::are_sound(edges, &state.tables)
 }
 
 /// Its half-edges swap two different nodes below the node count and are marked alike.

@@ -20,7 +20,8 @@ pub fn orient2d(a: RobustCoord, b: RobustCoord, c: RobustCoord) -> f64 {
     (left - right) as f64
 }
 
-/// For `types::EdgeSources`. Lists of merged ids are left out, so the first id is the only one.
+/// For `types::EdgeSources`: the line ids of an edge, rising and without repeats, as the original's own
+/// check wants them.
 #[derive(Clone, Debug)]
 pub struct EdgeSources {
     pub line_ids: Vec<u32>,
@@ -33,7 +34,11 @@ impl EdgeSources {
         }
     }
 
-    pub fn merge_line_id(&mut self, _line_id: u32) {}
+    pub fn merge_line_id(&mut self, line_id: u32) {
+        if let Err(place) = self.line_ids.binary_search(&line_id) {
+            self.line_ids.insert(place, line_id);
+        }
+    }
 }
 
 /// For `types::LocalFaceRef`.

@@ -1,4 +1,4 @@
-//! The state as the rules have it: the eleven tables, the result lists, the counts and the stage; the
+//! The state as the rules have it: the fourteen tables, the result lists, the counts and the stage; the
 //! calls and what they answer. The library is lent the tables as regions of five slices.
 
 use crate::original::Line3D;
@@ -7,11 +7,20 @@ use crate::original::Line3D;
 pub const NODE_LIMIT: usize = 1024;
 pub const EDGE_LIMIT: usize = 1024;
 
+/// The most pairs of a line id and a next place, for the lists of all edges together.
+pub const PAIR_LIMIT: usize = 4096;
+
+/// No place: it ends a list of line ids.
+pub const LIST_END: u16 = 65_535;
+
 /// The entries of the longest result list: one for each half-edge.
 pub const LIST_LENGTH: usize = 2 * EDGE_LIMIT;
 
+/// How many tables there are.
+pub const TABLES: usize = 14;
+
 /// How many entries each table needs, in the tables' order.
-pub const LEAST_LENGTHS: [usize; 11] = [
+pub const LEAST_LENGTHS: [usize; TABLES] = [
     NODE_LIMIT,
     NODE_LIMIT,
     NODE_LIMIT,
@@ -23,9 +32,12 @@ pub const LEAST_LENGTHS: [usize; 11] = [
     2 * EDGE_LIMIT,
     2 * EDGE_LIMIT,
     2 * EDGE_LIMIT,
+    EDGE_LIMIT,
+    PAIR_LIMIT,
+    PAIR_LIMIT,
 ];
 
-/// The eleven state tables.
+/// The fourteen state tables.
 #[derive(Clone)]
 pub struct Tables {
     pub nodes_x: Vec<f64>,
@@ -35,12 +47,19 @@ pub struct Tables {
     pub nodes_marked: Vec<bool>,
     /// Start x, y, z and end x, y, z of edge k from 6 k on.
     pub edges_line: Vec<f64>,
+    /// The lowest id of the edge's list.
     pub edges_line_id: Vec<u32>,
     pub dir_edges_src: Vec<u16>,
     pub dir_edges_dst: Vec<u16>,
     pub dir_edges_marked: Vec<bool>,
     /// Every half-edge once. A node's star is what of it starts at the node, in this order.
     pub nodes_outgoing: Vec<u16>,
+    /// Where the first pair of the edge's list of line ids stands.
+    pub edges_list_place: Vec<u16>,
+    /// The line id of each pair.
+    pub pairs_id: Vec<u32>,
+    /// Where the pair after it stands, or [`LIST_END`].
+    pub pairs_next: Vec<u16>,
 }
 
 /// The lent result lists: one for the edges that pruning and cutting list, six for rings.
@@ -155,24 +174,27 @@ pub trait Side {
 impl Default for State {
     /// No graph yet, and zero everywhere.
     fn default() -> Self {
-        let [nodes_x, nodes_y, nodes_z, degree, marked, line, id, src, dst, half, star] =
+        let [x, y, z, degree, marked, line, line_id, src, dst, half, star, place, id, next] =
             LEAST_LENGTHS;
         State {
             nodes: 0,
             edges: 0,
             stage: 0,
             tables: Tables {
-                nodes_x: vec![0.0; nodes_x],
-                nodes_y: vec![0.0; nodes_y],
-                nodes_z: vec![0.0; nodes_z],
+                nodes_x: vec![0.0; x],
+                nodes_y: vec![0.0; y],
+                nodes_z: vec![0.0; z],
                 nodes_degree: vec![0; degree],
                 nodes_marked: vec![false; marked],
                 edges_line: vec![0.0; line],
-                edges_line_id: vec![0; id],
+                edges_line_id: vec![0; line_id],
                 dir_edges_src: vec![0; src],
                 dir_edges_dst: vec![0; dst],
                 dir_edges_marked: vec![false; half],
                 nodes_outgoing: vec![0; star],
+                edges_list_place: vec![0; place],
+                pairs_id: vec![0; id],
+                pairs_next: vec![0; next],
             },
             lists: Lists {
                 edges: vec![0; LIST_LENGTH],
@@ -225,7 +247,7 @@ impl State {
 }
 
 impl Tables {
-    pub fn lengths(&self) -> [usize; 11] {
+    pub fn lengths(&self) -> [usize; TABLES] {
         [
             self.nodes_x.len(),
             self.nodes_y.len(),
@@ -238,6 +260,9 @@ impl Tables {
             self.dir_edges_dst.len(),
             self.dir_edges_marked.len(),
             self.nodes_outgoing.len(),
+            self.edges_list_place.len(),
+            self.pairs_id.len(),
+            self.pairs_next.len(),
         ]
     }
 
@@ -254,6 +279,9 @@ impl Tables {
             .or_else(|| differ("dir_edges_dst", &a.dir_edges_dst, &b.dir_edges_dst))
             .or_else(|| differ("dir_edges_marked", &a.dir_edges_marked, &b.dir_edges_marked))
             .or_else(|| differ("nodes_outgoing", &a.nodes_outgoing, &b.nodes_outgoing))
+            .or_else(|| differ("edges_list_place", &a.edges_list_place, &b.edges_list_place))
+            .or_else(|| differ("pairs_id", &a.pairs_id, &b.pairs_id))
+            .or_else(|| differ("pairs_next", &a.pairs_next, &b.pairs_next))
     }
 }
 

@@ -3,7 +3,7 @@
 //! checks more, and the tests that say so end in its panic.
 
 use oracle::original::{steps, Coord3D, Line3D, PlanarGraph};
-use oracle::state::{Call, Lent, Reply, Side, State};
+use oracle::state::{Call, Lent, Reply, Side, State, LIST_END, PAIR_LIMIT};
 use oracle::{calls, listing, rules, Oracle};
 
 fn line(x1: f64, y1: f64, x2: f64, y2: f64, line_id: u32) -> Line3D {
@@ -30,6 +30,10 @@ fn state(points: &[[f64; 2]], edges: &[[u16; 2]]) -> State {
         [tables.dir_edges_src[half], tables.dir_edges_dst[half]] = ends;
         tables.nodes_outgoing[half] = half as u16;
         tables.nodes_degree[usize::from(ends[0])] += 1;
+    }
+    for edge in 0..edges.len() {
+        tables.edges_list_place[edge] = edge as u16;
+        tables.pairs_next[edge] = LIST_END;
     }
     state
 }
@@ -146,13 +150,26 @@ fn equal_angles() {
     assert_eq!(oracle.stars(), [[0, 2], [1, 3]]);
 }
 
-/// Merged line ids: the stand-in keeps the first id, as document 01 has it. By the check that the
-/// original makes in debug builds its own list is sorted, and the lowest id is the edge's.
+/// Merged line ids: the original takes the first of its list for the edge's, and by its own check the
+/// list rises strictly. The stand-in's does, so the lowest id is the edge's, as request §1 has it.
 #[test]
 fn merged_ids() {
-    let list = "create\nadd 0 0 0 1 0 0 2\nadd 0 0 0 1 0 0 1\nshow\n";
+    let list = "create\nadd 0 0 0 1 0 0 2\nadd 1 0 5 0 0 5 1\nshow\n";
     let printed = calls::run(list, &mut Oracle::default()).unwrap();
-    assert!(printed.contains("edge 0 line 0 0 0 1 0 0 id 2 "));
+    assert!(printed.contains("edge 0 line 0 0 0 1 0 0 id 1 "));
+}
+
+/// Refusal 12: the original has no limit of ids.
+#[test]
+fn no_limit_of_ids() {
+    let mut graph = PlanarGraph::new();
+    let mut oracle = Oracle::default();
+    for id in 0..=PAIR_LIMIT as u32 {
+        let pass = line(0.0, 0.0, 1.0, 0.0, id);
+        assert_eq!(graph.add_line(pass), 0);
+        let reply = oracle.call(&Call::Add(pass), &Lent::FULL);
+        assert_eq!(reply == Reply::Refused(12), id as usize == PAIR_LIMIT);
+    }
 }
 
 /// A NaN as z keeps its bits in the original, from a call and from a file.

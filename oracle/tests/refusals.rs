@@ -1,9 +1,20 @@
 //! The order of refusals, and every kind of damage in the soundness list.
 
+use oracle::state::{LIST_END, PAIR_LIMIT, TABLES};
 use oracle::{calls, Oracle};
 
 /// A triangle on three nodes.
 const TRIANGLE: &str = "create\nadd 0 0 0 4 0 0 1\nadd 4 0 0 0 3 0 2\nadd 0 3 0 0 0 0 3\n";
+
+/// The calls that test the state.
+const CALLS: [&str; 6] = [
+    "add 0 0 0 1 0 0 1",
+    "sort",
+    "prune",
+    "cut",
+    "rings",
+    "reset",
+];
 
 /// The last line printed for the triangle and then these lines.
 fn last(lines: &str) -> String {
@@ -44,16 +55,8 @@ fn order_of_a_step() {
 
 #[test]
 fn every_table_is_measured() {
-    for table in 0..11 {
-        for call in [
-            "create",
-            "add 0 0 0 1 0 0 1",
-            "sort",
-            "prune",
-            "cut",
-            "rings",
-            "reset",
-        ] {
+    for table in 0..TABLES {
+        for call in CALLS.into_iter().chain(["create"]) {
             assert_eq!(last(&format!("short {table}\n{call}")), "refused 6");
         }
     }
@@ -82,17 +85,58 @@ fn every_damage_is_found() {
         "set 0 1 x7ff8000000000000",
         "set 9 0 1\nset 9 1 1",
     ] {
-        for call in [
-            "add 0 0 0 1 0 0 1",
-            "sort",
-            "prune",
-            "cut",
-            "rings",
-            "reset",
-        ] {
+        for call in CALLS {
             assert_eq!(last(&format!("{damage}\n{call}")), "refused 7", "{damage}");
         }
         assert_eq!(last(&format!("{damage}\ncreate")), "created");
+    }
+}
+
+/// The triangle's lists are one pair each, at places 0, 1 and 2. Each of these breaks one rule of theirs
+/// and no other, but that a list which does not end cannot rise either.
+#[test]
+fn every_damaged_list_is_found() {
+    let (end, past) = (LIST_END, PAIR_LIMIT);
+    for damage in [
+        // The first id is not the line id.
+        "set 6 0 9".to_string(),
+        "set 12 2 9".to_string(),
+        // There is no list, or it begins past the table.
+        format!("set 11 0 {end}"),
+        format!("set 11 0 {past}"),
+        format!("set 11 0 {}", end - 1),
+        // It goes on past the table.
+        format!("set 13 0 {past}"),
+        format!("set 13 0 {}", end - 1),
+        // It does not rise: an equal id, a lower one behind one that rises.
+        format!("set 13 0 9\nset 12 9 1\nset 13 9 {end}"),
+        format!("set 13 0 9\nset 12 9 7\nset 13 9 8\nset 12 8 6\nset 13 8 {end}"),
+        // It does not end: one pair, and two.
+        "set 13 0 0".to_string(),
+        "set 13 0 9\nset 12 9 7\nset 13 9 0".to_string(),
+        // Two lists are one, or the end of one is the other.
+        "set 11 1 0\nset 6 1 1".to_string(),
+        "set 13 0 1".to_string(),
+    ] {
+        for call in CALLS {
+            assert_eq!(last(&format!("{damage}\n{call}")), "refused 7", "{damage}");
+        }
+        assert_eq!(last(&format!("{damage}\ncreate")), "created");
+    }
+}
+
+/// Lists may lie anywhere in the table, and what is in no list may hold anything.
+#[test]
+fn sound_lists() {
+    let (end, top) = (LIST_END, PAIR_LIMIT - 1);
+    for sound in [
+        format!("set 13 0 {top}\nset 12 {top} 9\nset 13 {top} {end}"),
+        format!("set 11 0 9\nset 12 9 1\nset 13 9 0\nset 12 0 {}", u32::MAX),
+        format!("set 11 3 {end}\nset 6 3 9\nset 12 3 0\nset 13 3 3"),
+        "set 11 3 0\nset 13 4 0".to_string(),
+    ] {
+        assert_eq!(last(&format!("{sound}\nadd 0 0 0 9 9 0 1")), "edge 3 new");
+        assert_eq!(last(&format!("{sound}\nadd 4 0 0 0 0 0 1")), "edge 0 old");
     }
 }
 

@@ -13,14 +13,15 @@ use crate::Refusal;
 pub struct Slices<'a> {
     /// x, y and z of the nodes; segments.
     pub floats: &'a mut [f64],
-    /// Where half-edges start; where they end.
+    /// Where half-edges start; where they end; the places of the lists of line ids; the next place of
+    /// each pair in them.
     pub numbers: &'a mut [u16],
     /// The star table; degrees.
     pub stars: &'a mut [u16],
     /// Of nodes; of half-edges. A byte in use is 0 or 1, or the call is refused as unsound. A byte
     /// that is not in use may hold anything and keeps it.
     pub marks: &'a mut [u8],
-    /// Line ids.
+    /// Line ids of the edges; of the pairs.
     pub ids: &'a mut [u32],
 }
 
@@ -38,7 +39,7 @@ pub struct RingLists<'a> {
 fn answered(number: u32) -> Result<(), Refusal> {
     match number {
         0 => Ok(()),
-        _ => Err(Refusal::from_number(number).expect("the library answers 0 to 11")),
+        _ => Err(Refusal::from_number(number).expect("the library answers 0 to 12")),
     }
 }
 
@@ -73,7 +74,8 @@ pub fn create(state: &mut [u16; 3], slices: &mut Slices) -> Result<(), Refusal> 
     lend!(tukmiheb_create, state, [], slices, [])
 }
 
-/// Adds a line, start x, y, z and end x, y, z. `reply` gets the edge, and 1 if it is new.
+/// Adds a line, start x, y, z and end x, y, z. `reply` gets the edge, and 1 if it is new. Of an old edge
+/// only its list of line ids changes, where that lacks the line's, and its own line id, the lowest.
 pub fn add_line(
     state: &mut [u16; 3],
     line: &[f64; 6],

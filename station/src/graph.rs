@@ -2,10 +2,10 @@
 
 use crate::entries::{self, RingLists, Slices};
 use crate::layout::{
-    EDGE_LIMIT, FLOATS, HALF_EDGE_LIMIT, HALF_EDGE_MARKS, IDS, MARKS, NODES_X, NODES_Y, NODES_Z,
-    NUMBERS, SEGMENTS, SEGMENT_FLOATS, SOURCES, STARS, TARGETS,
+    EDGE_LIMIT, FLOATS, HALF_EDGE_LIMIT, HALF_EDGE_MARKS, IDS, LINE_IDS, MARKS, NODES_X, NODES_Y,
+    NODES_Z, NUMBERS, SEGMENTS, SEGMENT_FLOATS, SOURCES, STARS, TARGETS,
 };
-use crate::{Refusal, Rings};
+use crate::{LineIds, Refusal, Rings};
 
 /// The number of a node.
 #[derive(Clone, Copy, Debug, PartialEq, Eq, PartialOrd, Ord, Hash)]
@@ -18,6 +18,13 @@ pub struct EdgeId(pub u16);
 /// The number of a half-edge.
 #[derive(Clone, Copy, Debug, PartialEq, Eq, PartialOrd, Ord, Hash)]
 pub struct DirEdgeId(pub u16);
+
+impl DirEdgeId {
+    /// The edge that owns it.
+    pub fn edge(self) -> EdgeId {
+        EdgeId(self.0 / 2)
+    }
+}
 
 /// The number of a face.
 #[derive(Clone, Copy, Debug, PartialEq, Eq, PartialOrd, Ord, Hash)]
@@ -213,8 +220,8 @@ impl Default for Graph {
 }
 
 impl Graph {
-    /// An empty graph, with room for [`NODE_LIMIT`](crate::layout::NODE_LIMIT) nodes and
-    /// [`EDGE_LIMIT`] edges.
+    /// An empty graph, with room for [`NODE_LIMIT`](crate::layout::NODE_LIMIT) nodes,
+    /// [`EDGE_LIMIT`] edges and [`PAIR_LIMIT`](crate::layout::PAIR_LIMIT) line ids behind them.
     pub fn new() -> Self {
         let mut graph = Graph {
             state: [0; 3],
@@ -233,7 +240,8 @@ impl Graph {
     }
 
     /// Adds a segment (stage `Building`). A segment between two nodes that are joined already
-    /// answers the old edge and changes nothing.
+    /// answers the old edge. Its id comes to the edge's [`line_ids`](Graph::line_ids), and nothing
+    /// else changes.
     pub fn add_line(&mut self, line: &Line3D) -> Result<Added, Refusal> {
         let mut reply = [0; 2];
         entries::add_line(
@@ -340,12 +348,33 @@ impl Graph {
         Some(Coord3D::new(x, y, z))
     }
 
-    /// The first segment that was given for an edge.
+    /// The first segment that was given for an edge, with the lowest of its line ids.
     pub fn line(&self, edge: EdgeId) -> Option<Line3D> {
         let place = within(edge.0, self.edge_count())?;
         let values = &self.slices.floats[SEGMENTS + SEGMENT_FLOATS * place..][..SEGMENT_FLOATS];
         let values = values.try_into().expect("the values of a segment");
-        Some(Line3D::from_values(values, self.slices.ids[place]))
+        let line_id = self.slices.ids[LINE_IDS + place];
+        Some(Line3D::from_values(values, line_id))
+    }
+
+    /// The line ids of all segments that were added along an edge, rising and without repeats: which
+    /// passes drew this border. Of an edge that the graph does not have there are none.
+    ///
+    /// ```
+    /// use tukmiheb::{Coord3D, EdgeId, Graph, Line3D, Refusal};
+    ///
+    /// let [a, b] = [0.0, 4.0].map(|x| Coord3D::new(x, 0.0, 0.0));
+    /// let mut graph = Graph::new();
+    /// graph.add_line(&Line3D::new(a, b, 5))?;
+    /// graph.add_line(&Line3D::new(b, a, 3))?;
+    /// graph.add_line(&Line3D::new(a, b, 5))?;
+    /// assert!(graph.line_ids(EdgeId(0)).eq([3, 5]));
+    /// assert_eq!(graph.line_ids(EdgeId(1)).next(), None);
+    /// # Ok::<(), Refusal>(())
+    /// ```
+    pub fn line_ids(&self, edge: EdgeId) -> LineIds<'_> {
+        let place = within(edge.0, self.edge_count());
+        LineIds::new(&self.slices.numbers, &self.slices.ids, place)
     }
 
     /// Where a half-edge starts and where it ends.

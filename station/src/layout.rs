@@ -7,8 +7,15 @@
 /// The most nodes that a graph may have.
 pub const NODE_LIMIT: usize = 1024;
 
-/// The most edges that a graph may have. All that follows is made from these two limits.
+/// The most edges that a graph may have.
 pub const EDGE_LIMIT: usize = 1024;
+
+/// The most pairs of a line id and the place of the next one, for the lists of all edges together. All
+/// lengths and places that follow are made from these three limits.
+pub const PAIR_LIMIT: usize = 4096;
+
+/// No place: it ends a list of line ids.
+pub const LIST_END: u16 = 65_535;
 
 pub const HALF_EDGE_LIMIT: usize = 2 * EDGE_LIMIT;
 
@@ -27,7 +34,7 @@ pub const SEGMENTS: usize = NODES_Z + NODE_LIMIT;
 /// The least length of the floats.
 pub const FLOATS: usize = SEGMENTS + SEGMENT_FLOATS * EDGE_LIMIT;
 
-// ---- numbers: the nodes at the ends of half-edges
+// ---- numbers: the nodes at the ends of half-edges, then the places in lists of line ids
 
 /// Where half-edges start.
 pub const SOURCES: usize = 0;
@@ -35,8 +42,14 @@ pub const SOURCES: usize = 0;
 /// Where they end.
 pub const TARGETS: usize = SOURCES + HALF_EDGE_LIMIT;
 
+/// Where the first pair of each edge's list stands.
+pub const LIST_PLACES: usize = TARGETS + HALF_EDGE_LIMIT;
+
+/// Where the pair after each pair stands, or [`LIST_END`].
+pub const LINKS: usize = LIST_PLACES + EDGE_LIMIT;
+
 /// The least length of the numbers.
-pub const NUMBERS: usize = TARGETS + HALF_EDGE_LIMIT;
+pub const NUMBERS: usize = LINKS + PAIR_LIMIT;
 
 // ---- stars: half-edges by node, and how many
 
@@ -56,7 +69,12 @@ pub const HALF_EDGE_MARKS: usize = NODE_MARKS + NODE_LIMIT;
 /// The least length of the marks.
 pub const MARKS: usize = HALF_EDGE_MARKS + HALF_EDGE_LIMIT;
 
-// ---- ids: line ids alone
+// ---- ids: line ids of edges, then of pairs
+
+/// The lowest id of each edge.
+pub const LINE_IDS: usize = 0;
+
+pub const PAIR_IDS: usize = LINE_IDS + EDGE_LIMIT;
 
 /// The least length of the ids.
-pub const IDS: usize = EDGE_LIMIT;
+pub const IDS: usize = PAIR_IDS + PAIR_LIMIT;

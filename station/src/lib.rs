@@ -32,6 +32,19 @@
 //! assert_eq!(areas(&trace), Ok(vec![6.0]));
 //! ```
 //!
+//! An edge knows all passes that drew it, by their line ids:
+//!
+//! ```
+//! use tukmiheb::{Coord3D, Graph, Line3D, Refusal};
+//!
+//! let [a, b] = [0.0, 4.0].map(|x| Coord3D::new(x, 0.0, 0.0));
+//! let mut graph = Graph::new();
+//! graph.add_line(&Line3D::new(a, b, 7))?;
+//! let again = graph.add_line(&Line3D::new(b, a, 2))?;
+//! assert!(!again.new && graph.line_ids(again.edge).eq([2, 7]));
+//! # Ok::<(), Refusal>(())
+//! ```
+//!
 //! A segment file is added in one call:
 //!
 //! ```
@@ -47,6 +60,7 @@ pub mod entries;
 mod ffi;
 mod graph;
 pub mod layout;
+mod line_ids;
 mod refusal;
 mod rings;
 mod rotation;
@@ -54,6 +68,7 @@ mod segment_file;
 
 pub use graph::{Added, Census, Cuts, Graph, Records, Stage};
 pub use graph::{Coord3D, DirEdgeId, EdgeId, FaceId, Line3D, NodeId};
+pub use line_ids::LineIds;
 pub use refusal::Refusal;
 pub use rings::{Ring, RingSide, Rings};
 pub use rotation::{least_rotation, Rotation};

@@ -16,11 +16,12 @@ pub enum Refusal {
     RecordShort = 9,
     RecordLength = 10,
     RecordKind = 11,
+    TooManyPairs = 12,
 }
 
 impl Refusal {
     /// All of them, by number.
-    pub const ALL: [Refusal; 11] = [
+    pub const ALL: [Refusal; 12] = [
         Refusal::NotWhole,
         Refusal::SameNode,
         Refusal::TooManyNodes,
@@ -32,9 +33,10 @@ impl Refusal {
         Refusal::RecordShort,
         Refusal::RecordLength,
         Refusal::RecordKind,
+        Refusal::TooManyPairs,
     ];
 
-    /// The refusal with a number from 1 to 11.
+    /// The refusal with a number from 1 to 12.
     pub fn from_number(number: u32) -> Option<Refusal> {
         Refusal::ALL
             .into_iter()
@@ -58,6 +60,7 @@ impl Refusal {
             Refusal::RecordShort => "record short",
             Refusal::RecordLength => "record length",
             Refusal::RecordKind => "record kind",
+            Refusal::TooManyPairs => "too many pairs",
         }
     }
 
@@ -75,6 +78,7 @@ impl Refusal {
             Refusal::RecordShort => "The file ends within a record.",
             Refusal::RecordLength => "The record's length is not 54.",
             Refusal::RecordKind => "The record's kind is not 1.",
+            Refusal::TooManyPairs => "The table of line ids has no space for one more.",
         }
     }
 }

@@ -13,12 +13,13 @@ use Rattle.lists.proofs.Members.{in-at}
 use Rattle.rules.specs.Keys.{keyOf}
 use Rattle.rules.specs.Limits.{limits}
 use Rattle.rules.specs.State.{State, keyIn}
-use Rattle.rules.specs.Adding.{Outcome, withNode, withEdge, Nothing, add}
+use Rattle.rules.specs.Adding.{Outcome, withNode, withEdge, withId, Nothing, add}
 use Rattle.rules.specs.Adding as rules
+use Rattle.rules.proofs.PairsTaken.{freeIn}
 use Rattle.rules.proofs.Soundness.{is-roomy, is-sound}
 use Rattle.rules.proofs.Tables.{star-table-only}
 use Rattle.adding.specs.declared.Decision.{Decision}
-use Rattle.adding.specs.declared.Decision.the-variants.{Make, Keep, Refuse}
+use Rattle.adding.specs.declared.Decision.the-variants.{Make, Enter, Keep, Refuse}
 use Rattle.adding.specs.Outcomes.{Ready}
 use Rattle.adding.proofs.Carrying.{carried, decided, add-carried, makeable}
 
@@ -72,8 +73,8 @@ before-two : (t : List ℕ) (f a b h : ℕ) → h < f → getD (set (set t f a) 
 before-two t f a b h q = getD-set-other (set t f a) (f + 1) h b 0 (λ e. omega arith) ∙ getD-set-other t f h a 0 (λ e. omega arith)
 
 -- the next edge
-kept-edge : (u v : ℕ) (g : Line3D) (s : State) → Kept s (withEdge u v g s)
-kept-edge u v g s = let f = 2 * s .edges in record {
+kept-edge : (u v p : ℕ) (g : Line3D) (s : State) → Kept s (withEdge u v p g s)
+kept-edge u v p g s = let f = 2 * s .edges in record {
   nodes = omega arith;
   edges = omega arith;
   key = λ n q. refl;
@@ -82,21 +83,27 @@ kept-edge u v g s = let f = 2 * s .edges in record {
   star = λ i q. before-two (s .star) f f (f + 1) i q;
 }
 
+-- one more id behind an edge
+kept-id : (pairs k i p : ℕ) (s : State) → Kept s (withId false pairs k i p s)
+kept-id pairs k i p s =
+    record { nodes = omega arith; edges = omega arith; key = λ n q. refl; source = λ h q. refl; target = λ h q. refl; star = λ h q. refl }
+
 module _ (g : Line3D) (s : State) (ready : Ready limits s) where
   -- whatever was decided
   kept-carried : (d : Decision) → decided g s ready ≡ d → Kept s (carried d g s .state)
   kept-carried (Refuse why) e = kept-same s
   kept-carried (Keep k) e = kept-same s
+  kept-carried (Enter k) e = kept-id (limits .pairs) (k .0) (g .«line_id») (freeIn limits s) s
   kept-carried (Make e) q =
-      let m = makeable g s ready e q in
+      let m = makeable g s ready e q .0 in
       let t = withNode (e .«new_start») (e .start .0) (g .start) s in
       let w = withNode (e .«new_end») (e .end .0) (g .end) t in
       let n = node-count (e .«new_start») (e .start .0) (g .start) s (m .newStart) in
-      kept-then s w (withEdge (e .start .0) (e .end .0) g w)
+      kept-then s w (withEdge (e .start .0) (e .end .0) (freeIn limits s) g w)
       (kept-then s t w
       (kept-node (e .«new_start») (e .start .0) (g .start) s (m .newStart))
       (kept-node (e .«new_end») (e .end .0) (g .end) t (λ b. m .newEnd b ∙ sym n)))
-      (kept-edge (e .start .0) (e .end .0) g w)
+      (kept-edge (e .start .0) (e .end .0) (freeIn limits s) g w)
 
   -- an addition keeps what was there
   pub add-kept : (o : Outcome rules.Added Nothing) → o ≡ add limits g s → Kept s (o .state)

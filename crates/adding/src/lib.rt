@@ -7,7 +7,7 @@ ghost use Rattle.rotation.specs.Rotation.{keySame};
 ghost use Rattle.rules.specs.Keys.{keyOf};
 ghost use Rattle.rules.specs.Limits.{limits};
 ghost use Rattle.adding.specs.Searches.{endsBy};
-ghost use Rattle.adding.specs.Decisions.{roomDecision, decisionBy};
+ghost use Rattle.adding.specs.Decisions.{pairDecision, idDecision, roomDecision, decisionBy};
 ghost use Rattle.adding.specs.Written.{grownBy};
 use geometry::Coord3D;
 use geometry::Line3D;
@@ -47,9 +47,11 @@ pub struct Ends {
     pub new_end: bool,
 }
 
-// What an addition comes to, before anything is written.
+// What an addition comes to, before anything is written: a new edge, one more line id behind an edge
+// that is there, nothing that is not there already, or a refusal.
 pub enum Decision {
     Make(Ends),
+    Enter(EdgeId),
     Keep(EdgeId),
     Refuse(Refusal),
 }
@@ -101,15 +103,38 @@ fn ends_of(graph: PlanarGraph, start: NodeId, end: NodeId) -> Ends
     }
 }
 
-// Numbers 3 and 4: whether there is space for the new nodes and the new edge.
-fn find_space(graph: PlanarGraph, ends: Ends) -> Decision
+// Number 12, for a decision that needs a pair: whether there is a place for it.
+fn find_pair(decision: Decision, free: u16) -> Decision
+    ensures { λ r. ⌜ r ≡ pairDecision limits free decision ⌝ }
+{
+    if wide(free) < tables::MAX_PAIRS {
+        decision
+    } else {
+        Decision::Refuse(Refusal::TooManyPairs)
+    }
+}
+
+// For an edge that joins the ends already: nothing is written where it has the line's id, else the id
+// needs a pair.
+fn find_id(edge: EdgeId, known: bool, free: u16) -> Decision
+    ensures { λ r. ⌜ r ≡ idDecision limits edge known free ⌝ }
+{
+    if known {
+        Decision::Keep(edge)
+    } else {
+        find_pair(Decision::Enter(edge), free)
+    }
+}
+
+// Numbers 3, 4 and 12: whether there is space for the new nodes, the new edge and its first pair.
+fn find_space(graph: PlanarGraph, ends: Ends, free: u16) -> Decision
     requires { ⌜ graph .«node_count» ≤ limits .nodes ⌝ }
-    ensures { λ r. ⌜ r ≡ roomDecision limits (graph .«node_count») (graph .«edge_count») ends ⌝ }
+    ensures { λ r. ⌜ r ≡ roomDecision limits (graph .«node_count») (graph .«edge_count») free ends ⌝ }
 {
     let nodes = wide(graph.node_count) + wide(new_nodes(ends));
     if nodes <= tables::MAX_NODES {
         if wide(graph.edge_count) < tables::MAX_EDGES {
-            Decision::Make(ends)
+            find_pair(Decision::Make(ends), free)
         } else {
             Decision::Refuse(Refusal::TooManyEdges)
         }
@@ -118,17 +143,20 @@ fn find_space(graph: PlanarGraph, ends: Ends) -> Decision
     }
 }
 
-// Numbers 1 and 2, an edge that joins the ends already, then numbers 3 and 4, from what the searches
-// found: the nodes of the ends, and the half-edge between them.
+// Numbers 1 and 2, an edge that joins the ends already, then numbers 3 and 4, and 12 last, from what
+// the searches found: the nodes of the ends, the half-edge between them, whether its edge has the
+// line's id, and the lowest free place for a pair.
 pub fn decide(
     graph: PlanarGraph,
     line: Line3D,
     start: NodeId,
     end: NodeId,
     half: DirEdgeId,
+    known: bool,
+    free: u16,
 ) -> Decision
     requires { ⌜ (graph .«node_count» ≤ limits .nodes) × (graph .«edge_count» ≤ limits .edges) ⌝ }
-    ensures { λ r. ⌜ r ≡ decisionBy limits line (graph .«node_count») (graph .«edge_count») (start .0) (end .0) (half .0) ⌝ }
+    ensures { λ r. ⌜ r ≡ decisionBy limits line (graph .«node_count») (graph .«edge_count») (start .0) (end .0) (half .0) known free ⌝ }
 {
     let from = line.start;
     let to = line.end;
@@ -142,9 +170,9 @@ pub fn decide(
         return Decision::Refuse(Refusal::SameNode);
     }
     if half.0 < 2 * graph.edge_count {
-        return Decision::Keep(EdgeId(half.0 / 2));
+        return find_id(EdgeId(half.0 / 2), known, free);
     }
-    find_space(graph, ends_of(graph, start, end))
+    find_space(graph, ends_of(graph, start, end), free)
 }
 
 // The counts with what is new.

@@ -34,6 +34,7 @@ emptyGraph l = record {
   target = replicate (2 * l .edges) 0;
   halfMark = replicate (2 * l .edges) false;
   star = replicate (2 * l .edges) 0;
+  tracings = record { place = replicate (l .edges) 0; id = replicate (l .pairs) 0; next = replicate (l .pairs) 0 };
 }
 
 -- what is printed when k records were taken: the line of the refusal that record k met, or the listing

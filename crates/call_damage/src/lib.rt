@@ -7,12 +7,17 @@ use tables::DEGREES;
 use tables::FLOATS;
 use tables::HALF_MARKS;
 use tables::IDS;
+use tables::LINKS;
+use tables::LIST_PLACES;
 use tables::MARKS;
+use tables::MAX_EDGES;
 use tables::MAX_HALF_EDGES;
 use tables::MAX_NODES;
+use tables::MAX_PAIRS;
 use tables::NODES_Y;
 use tables::NODES_Z;
 use tables::NUMBERS;
+use tables::PAIR_IDS;
 use tables::SEGMENTS;
 use tables::STARS;
 use tables::TARGETS;
@@ -83,11 +88,12 @@ fn put_mark(marks: &mut [bool; MARKS], region: Region, place: usize, number: Num
     false
 }
 
-fn put_id(ids: &mut [u32; IDS], place: usize, number: Number) -> bool {
+fn put_id(ids: &mut [u32; IDS], region: Region, place: usize, number: Number) -> bool {
     let count = call_list::count_of(number, 0x1_0000_0000);
-    if place < IDS {
+    let i = place_in(region, place, IDS);
+    if i < IDS {
         if count.clear {
-            ids[place] = count.value as u32;
+            ids[i] = count.value as u32;
             return true;
         }
     }
@@ -98,6 +104,20 @@ fn of_nodes(at: usize) -> Region {
     Region {
         at,
         size: MAX_NODES,
+    }
+}
+
+fn of_edges(at: usize) -> Region {
+    Region {
+        at,
+        size: MAX_EDGES,
+    }
+}
+
+fn of_pairs(at: usize) -> Region {
+    Region {
+        at,
+        size: MAX_PAIRS,
     }
 }
 
@@ -134,11 +154,14 @@ pub fn put_entry(
         3 => put_star(stars, of_nodes(DEGREES), place, number),
         4 => put_mark(marks, of_nodes(0), place, number),
         5 => put_float(floats, of_segments(), place, number),
-        6 => put_id(ids, place, number),
+        6 => put_id(ids, of_edges(0), place, number),
         7 => put_number(numbers, of_halves(0), place, number),
         8 => put_number(numbers, of_halves(TARGETS), place, number),
         9 => put_mark(marks, of_halves(HALF_MARKS), place, number),
         10 => put_star(stars, of_halves(0), place, number),
+        11 => put_number(numbers, of_edges(LIST_PLACES), place, number),
+        12 => put_id(ids, of_pairs(PAIR_IDS), place, number),
+        13 => put_number(numbers, of_pairs(LINKS), place, number),
         _ => false,
     };
     if !is_put {

@@ -21,11 +21,15 @@ use call_replies::Reply;
 use tables::DEGREES;
 use tables::EdgeId;
 use tables::HALF_MARKS;
+use tables::LINKS;
+use tables::LIST_PLACES;
 use tables::MAX_EDGES;
 use tables::MAX_HALF_EDGES;
 use tables::MAX_NODES;
+use tables::MAX_PAIRS;
 use tables::NODES_Y;
 use tables::NODES_Z;
+use tables::PAIR_IDS;
 use tables::PlanarGraph;
 use tables::SEGMENTS;
 use tables::TARGETS;
@@ -118,6 +122,39 @@ fn same_but_edge(before: &[u64; IMAGE], after: &[u64; IMAGE], edge: EdgeId) -> b
         && same_but_halves(before, after, STARS_AT, edge)
 }
 
+// The place of an edge's list, or the number of pairs where it has none.
+fn list_place(image: &[u64; IMAGE], edge: EdgeId) -> usize
+    ensures { λ r. ⌜ r ≤ limits .pairs ⌝ }
+{
+    let k = wide(edge.0);
+    if k < MAX_EDGES {
+        let place = image[NUMBERS_AT + LIST_PLACES + k] as usize;
+        if place < MAX_PAIRS {
+            return place;
+        }
+    }
+    MAX_PAIRS
+}
+
+// The tables of the lists of line ids but for an edge's list place and one pair.
+fn same_but_pair(before: &[u64; IMAGE], after: &[u64; IMAGE], edge: EdgeId) -> bool {
+    let k = wide(edge.0);
+    let p = list_place(after, edge);
+    same_around(before, after, NUMBERS_AT + LIST_PLACES, MAX_EDGES, k, k + 1)
+        && same_around(before, after, NUMBERS_AT + LINKS, MAX_PAIRS, p, p + 1)
+        && same_around(before, after, IDS_AT + PAIR_IDS, MAX_PAIRS, p, p + 1)
+}
+
+// All but an edge's line id and its list: a repeat may bring an id.
+fn same_but_ids(before: &[u64; IMAGE], after: &[u64; IMAGE], edge: EdgeId) -> bool {
+    let k = wide(edge.0);
+    same_part(before, after, 0, NUMBERS_AT + LIST_PLACES)
+        && same_around(before, after, NUMBERS_AT + LIST_PLACES, MAX_EDGES, k, k + 1)
+        && same_part(before, after, STARS_AT, IDS_AT)
+        && same_around(before, after, IDS_AT, MAX_EDGES, k, k + 1)
+        && same_part(before, after, HALF_EDGES_AT, IMAGE)
+}
+
 // Whether the call left alone what it has to.
 pub fn is_kept(
     reply: Reply,
@@ -128,11 +165,12 @@ pub fn is_kept(
 ) -> bool {
     match reply {
         Reply::Created => same_part(before, after, 0, IMAGE),
-        Reply::Old(_) => same_graph(old, new) && same_part(before, after, 0, IMAGE),
+        Reply::Old(edge) => same_graph(old, new) && same_but_ids(before, after, edge),
         Reply::Refused(_) => same_graph(old, new) && same_part(before, after, 0, IMAGE),
         Reply::New(edge) => {
             same_but_nodes(before, after, old.node_count, new.node_count)
                 && same_but_edge(before, after, edge)
+                && same_but_pair(before, after, edge)
                 && same_lists(before, after, 0, 0)
         }
         Reply::Sorted => {

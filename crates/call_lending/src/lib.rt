@@ -28,10 +28,10 @@ pub const NO_SLICE: usize = 5;
 pub fn slice_of(table: usize) -> usize {
     match table {
         0 | 1 | 2 | 5 => FLOATS_SLICE,
-        7 | 8 => NUMBERS_SLICE,
+        7 | 8 | 11 | 13 => NUMBERS_SLICE,
         3 | 10 => STARS_SLICE,
         4 | 9 => MARKS_SLICE,
-        6 => IDS_SLICE,
+        6 | 12 => IDS_SLICE,
         _ => NO_SLICE,
     }
 }

@@ -16,6 +16,9 @@ use tables::MAX_HALF_EDGES;
 // A list is lent with a length below this: at most an entry for each half-edge.
 const LENGTHS: u64 = (MAX_HALF_EDGES + 1) as u64;
 
+// How many state tables there are.
+const TABLES: u64 = 14;
+
 // Two points and a line id.
 fn read_line(text: &[u8], before: usize, end: usize) -> Call
     requires { ⌜ (before ≤ end) × (end ≤ length (now text)) ⌝ }
@@ -52,7 +55,7 @@ fn read_state(text: &[u8], before: usize, end: usize) -> Call
 fn read_entry(text: &[u8], before: usize, end: usize) -> Call
     requires { ⌜ (before ≤ end) × (end ≤ length (now text)) ⌝ }
 {
-    let table = count_after(text, before, end, 11);
+    let table = count_after(text, before, end, TABLES);
     let place = count_after(text, table.stop, end, 0x1_0000);
     let word = number_after(text, place.stop, end);
     if table.clear && place.clear && word.stop == end {
@@ -66,7 +69,7 @@ fn read_entry(text: &[u8], before: usize, end: usize) -> Call
 fn read_short(text: &[u8], before: usize, end: usize) -> Call
     requires { ⌜ (before ≤ end) × (end ≤ length (now text)) ⌝ }
 {
-    let table = count_after(text, before, end, 11);
+    let table = count_after(text, before, end, TABLES);
     if table.clear && table.stop == end {
         return Call::Short(table.value as usize);
     }

@@ -12,9 +12,13 @@ use crate::reads::number_at;
 use tables::DEGREES;
 use tables::EdgeId;
 use tables::HALF_MARKS;
+use tables::LINKS;
+use tables::LIST_PLACES;
+use tables::MAX_PAIRS;
 use tables::NODES_Y;
 use tables::NODES_Z;
 use tables::NodeId;
+use tables::PAIR_IDS;
 use tables::PlanarGraph;
 use tables::SEGMENTS;
 use tables::TARGETS;
@@ -82,12 +86,29 @@ fn say_halves(edge: EdgeId, numbers: &[u16], marks: &[bool]) {
     say_spaced(mark_at(marks, HALF_MARKS + h + 1));
 }
 
+// The line ids behind an edge, from the place of its list on; a list that does not end stops after as many
+// as there are pairs.
+fn say_ids(edge: EdgeId, numbers: &[u16], ids: &[u32]) {
+    let mut at = number_at(numbers, LIST_PLACES + wide(edge.0)) as usize;
+    let mut steps = 0;
+    while steps < MAX_PAIRS {
+        if MAX_PAIRS <= at {
+            return;
+        }
+        say_spaced(id_at(ids, PAIR_IDS + at));
+        at = number_at(numbers, LINKS + at) as usize;
+        steps += 1;
+    }
+}
+
 fn say_edge(edge: EdgeId, floats: &[f64], numbers: &[u16], marks: &[bool], ids: &[u32]) {
     say_labelled(b"edge ", number(edge.0));
     say(b" line");
     say_segment(edge, floats);
     say_labelled(b" id ", id_at(ids, wide(edge.0)));
     say_halves(edge, numbers, marks);
+    say(b" ids");
+    say_ids(edge, numbers, ids);
     say(b"\n");
 }
 

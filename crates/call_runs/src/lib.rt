@@ -20,7 +20,7 @@ use tables::PlanarGraph;
 use tables::STARS;
 
 // A longer text is not run.
-const TEXT: usize = 262144;
+const TEXT: usize = 524288;
 
 // A comment that starts with `#` is printed as it is.
 fn say_comment(text: &[u8], call: Call, at: usize, end: usize)

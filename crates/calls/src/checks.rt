@@ -27,7 +27,7 @@ pub fn check_sound(
     ensures { λ r. ⌜ r ≡ soundCheck limits (stateIn limits graph (now (floats .entry)) (now (numbers .entry)) (now (stars .entry)) (now (marks .entry)) (now (ids .entry))) ⌝ }
 {
     if has_room(floats, numbers, stars, marks, ids) {
-        if is_sound(graph, floats, numbers, stars, marks) {
+        if is_sound(graph, floats, numbers, stars, marks, ids) {
             return Checked::Passed;
         }
         return Checked::Refused(Refusal::Unsound);

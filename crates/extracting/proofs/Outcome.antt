@@ -15,6 +15,7 @@ use Rattle.rules.specs.Cycles.{Arrangement}
 use Rattle.rules.specs.Split.{minimalRings}
 use Rattle.rules.specs.Euler.{Census as Counts, edgeCount, census}
 use Rattle.rules.specs.Sane.{Sane}
+use Rattle.rules.specs.LineIds.{Tracings}
 use Rattle.rules.specs.State.{State, arrangement, arrangementIn, roomy, sound}
 use Rattle.rules.specs.Adding.{Outcome, demand}
 use Rattle.rules.specs.Ringing.{RingLists, Ringing, longEnough, ringsOf, ringed, ringStep}
@@ -75,11 +76,11 @@ long-room n out e =
     }
 
 -- a sound state whose stars are grouped gives what extraction asks
-pub sound-extractable : (l : Limits) (g : PlanarGraph) (xs ys zs : List Float) (ds : List ℕ) (nm : List Bool) (lines : List Float) (ids source target : List ℕ) (hm : List Bool) (star : List ℕ)
-    → let s = stateOf g xs ys zs ds nm lines ids source target hm star in
+pub sound-extractable : (l : Limits) (g : PlanarGraph) (xs ys zs : List Float) (ds : List ℕ) (nm : List Bool) (lines : List Float) (ids source target : List ℕ) (hm : List Bool) (star : List ℕ) (tracings : Tracings)
+    → let s = stateOf g xs ys zs ds nm lines ids source target hm star tracings in
     roomy l s ≡ true → sound l s ≡ true → (offsets grouped : List ℕ) → Grouped (s .nodes) source (take (2 * s .edges) star) offsets grouped
     → (out : RingLists) → longEnough (2 * s .edges) out ≡ true → Extractable l g xs ys source hm offsets grouped out
-sound-extractable l g xs ys zs ds nm lines ids source target hm star room sense offsets grouped t out fits = record {
+sound-extractable l g xs ys zs ds nm lines ids source target hm star tracings room sense offsets grouped t out fits = record {
   nodesZ = zs;
   degree = ds;
   nodesMarked = nm;
@@ -87,6 +88,7 @@ sound-extractable l g xs ys zs ds nm lines ids source target hm star room sense 
   lineIds = ids;
   target = target;
   star = star;
+  tracings = tracings;
   roomed = room;
   sense = sense;
   groups = t;
@@ -94,14 +96,14 @@ sound-extractable l g xs ys zs ds nm lines ids source target hm star room sense 
 }
 
 -- what extraction leaves, as an outcome
-pub extraction-ringed : (g : PlanarGraph) (xs ys zs : List Float) (ds : List ℕ) (nm : List Bool) (lines : List Float) (ids source target : List ℕ) (hm : List Bool) (star : List ℕ) (out out′ : RingLists) (r : Extracted)
-    → let s = stateOf g xs ys zs ds nm lines ids source target hm star in
+pub extraction-ringed : (g : PlanarGraph) (xs ys zs : List Float) (ds : List ℕ) (nm : List Bool) (lines : List Float) (ids source target : List ℕ) (hm : List Bool) (star : List ℕ) (tracings : Tracings) (out out′ : RingLists) (r : Extracted)
+    → let s = stateOf g xs ys zs ds nm lines ids source target hm star tracings in
     Extraction s out out′ r
-    → _≡_ {A = Outcome Ringing RingLists} (record { reply = success (record { count = r .count; census = censusOf (r .census); comparisons = r .comparisons }); state = stateOf (r .graph) xs ys zs ds nm lines ids source target hm star; lists = out′ }) (ringed s out)
+    → _≡_ {A = Outcome Ringing RingLists} (record { reply = success (record { count = r .count; census = censusOf (r .census); comparisons = r .comparisons }); state = stateOf (r .graph) xs ys zs ds nm lines ids source target hm star tracings; lists = out′ }) (ringed s out)
 unfolding ringed
-extraction-ringed g xs ys zs ds nm lines ids source target hm star out out′ r e = λ i. record {
+extraction-ringed g xs ys zs ds nm lines ids source target hm star tracings out out′ r e = λ i. record {
   reply = success (record { count = e .count i; census = e .counted i; comparisons = e .compared i });
-  state = stateOf (e .advanced i) xs ys zs ds nm lines ids source target hm star;
+  state = stateOf (e .advanced i) xs ys zs ds nm lines ids source target hm star tracings;
   lists = record { halfEdges = e .halfEdges i; first = e .first i; length = e .size i; face = e .face i; side = e .side i; area = e .area i };
 }
 
@@ -116,10 +118,10 @@ ring-passes l s room sense stage out fits =
     ∙ ap (λ b. demand b 8 s out (ringed s out)) fits
 
 -- what extraction leaves of a sound state in stage 3 is the outcome of the rule: its reply, its state and its lists
-pub extraction-is-outcome : (l : Limits) (g : PlanarGraph) (xs ys zs : List Float) (ds : List ℕ) (nm : List Bool) (lines : List Float) (ids source target : List ℕ) (hm : List Bool) (star : List ℕ)
-    → let s = stateOf g xs ys zs ds nm lines ids source target hm star in
+pub extraction-is-outcome : (l : Limits) (g : PlanarGraph) (xs ys zs : List Float) (ds : List ℕ) (nm : List Bool) (lines : List Float) (ids source target : List ℕ) (hm : List Bool) (star : List ℕ) (tracings : Tracings)
+    → let s = stateOf g xs ys zs ds nm lines ids source target hm star tracings in
     roomy l s ≡ true → sound l s ≡ true → s .stage ≡ 3 → (out out′ : RingLists) (r : Extracted) → longEnough (2 * s .edges) out ≡ true → Extraction s out out′ r
-    → ringStep l s out ≡ record { reply = success (record { count = r .count; census = censusOf (r .census); comparisons = r .comparisons }); state = stateOf (r .graph) xs ys zs ds nm lines ids source target hm star; lists = out′ }
-extraction-is-outcome l g xs ys zs ds nm lines ids source target hm star room sense stage out out′ r fits e =
-    ring-passes l (stateOf g xs ys zs ds nm lines ids source target hm star) room sense stage out fits
-    ∙ sym (extraction-ringed g xs ys zs ds nm lines ids source target hm star out out′ r e)
+    → ringStep l s out ≡ record { reply = success (record { count = r .count; census = censusOf (r .census); comparisons = r .comparisons }); state = stateOf (r .graph) xs ys zs ds nm lines ids source target hm star tracings; lists = out′ }
+extraction-is-outcome l g xs ys zs ds nm lines ids source target hm star tracings room sense stage out out′ r fits e =
+    ring-passes l (stateOf g xs ys zs ds nm lines ids source target hm star tracings) room sense stage out fits
+    ∙ sym (extraction-ringed g xs ys zs ds nm lines ids source target hm star tracings out out′ r e)

@@ -7,6 +7,7 @@ use lib.ListN.{length, take}
 use lib.Ieee.{Float}
 use Rattle.lists.specs.Lists.{flatten, over}
 use Rattle.rules.specs.Limits.{Limits}
+use Rattle.rules.specs.LineIds.{Tracings}
 use Rattle.rules.specs.State.{State, arrangement, nodeKey, roomy, sound}
 use Rattle.rules.specs.Euler.{census}
 use Rattle.rules.specs.Naming.{namingComparisons}
@@ -39,8 +40,9 @@ pub record Extractable (l : Limits) (graph : PlanarGraph) (nodesX nodesY : List 
   pub lineIds : List ℕ
   pub target : List ℕ
   pub star : List ℕ
-  pub roomed : roomy l (stateOf graph nodesX nodesY nodesZ degree nodesMarked lines lineIds source target marks star) ≡ true
-  pub sense : sound l (stateOf graph nodesX nodesY nodesZ degree nodesMarked lines lineIds source target marks star) ≡ true
+  pub tracings : Tracings
+  pub roomed : roomy l (stateOf graph nodesX nodesY nodesZ degree nodesMarked lines lineIds source target marks star tracings) ≡ true
+  pub sense : sound l (stateOf graph nodesX nodesY nodesZ degree nodesMarked lines lineIds source target marks star tracings) ≡ true
   pub groups : Grouped (graph .«node_count») source (take (2 * graph .«edge_count») star) offsets grouped
   pub long : Room (2 * graph .«edge_count») out
 
@@ -64,6 +66,6 @@ pub record Extraction (s : State) (out out′ : RingLists) (r : Extracted) : Typ
 -- so it is for every sound state that has the tables that are read, and whose stars are the groups
 abbrev pub Extracts : Limits → PlanarGraph → List Float → List Float → List ℕ → List Bool → List ℕ → List ℕ → RingLists → RingLists → Extracted → Type 0
 Extracts l graph nodesX nodesY source marks offsets grouped out out′ r =
-    (nodesZ : List Float) (degree : List ℕ) (nodesMarked : List Bool) (lines : List Float) (lineIds target star : List ℕ)
-    → let s = stateOf graph nodesX nodesY nodesZ degree nodesMarked lines lineIds source target marks star in
+    (nodesZ : List Float) (degree : List ℕ) (nodesMarked : List Bool) (lines : List Float) (lineIds target star : List ℕ) (tracings : Tracings)
+    → let s = stateOf graph nodesX nodesY nodesZ degree nodesMarked lines lineIds source target marks star tracings in
     sound l s ≡ true → Grouped (graph .«node_count») source (take (2 * graph .«edge_count») star) offsets grouped → Extraction s out out′ r

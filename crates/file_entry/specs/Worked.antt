@@ -27,6 +27,7 @@ empty stage length = record {
   target = replicate (2 * limits .edges) 7;
   halfMark = replicate (2 * limits .edges) true;
   star = replicate (2 * limits .edges) 7;
+  tracings = record { place = replicate (limits .edges) 7; id = replicate (limits .pairs) 7; next = replicate (limits .pairs) 7 };
 }
 
 -- the bytes of a record from (0, 0) to a point with y 0: its x is 4.0 or 6.0 by a byte, 16 or 24
@@ -40,11 +41,17 @@ file = record-of 16 ++ record-of 24 ++ record-of 16
 abbrev answer : List ℕ → State → Reply Records
 answer bytes s = addRecords limits bytes s .reply
 
+-- the same for an empty graph, with a table of so many pairs
+abbrev paired : ℕ → List ℕ → Reply Records
+paired pairs bytes =
+    addRecords (record { nodes = limits .nodes; edges = limits .edges; pairs = pairs; bound = limits .bound }) bytes (empty 0 (limits .nodes)) .reply
+
 abbrev taken : ℕ → ℕ → Reply Records
 taken n number = success (record { taken = n; number = number })
 
 -- the file, none, the file without its last byte, with another length and another kind in record 1, with -0.0 for its first x and 0.0 for the
--- second; then a stage that is not 0, a stage that is none, and a table too short
+-- second; then a stage that is not 0, a stage that is none, and a table too short; then two pairs, which do for the same id again and not for another
+-- one, and one pair, which does not do for a second edge
 abbrev found : List (Reply Records)
 found =
     answer file (empty 0 (limits .nodes))
@@ -56,10 +63,13 @@ found =
     ∷ answer file (empty 1 (limits .nodes))
     ∷ answer file (empty 5 (limits .nodes))
     ∷ answer file (empty 5 (limits .nodes - 1))
+    ∷ paired 2 file
+    ∷ paired 2 (set file 122 2)
+    ∷ paired 1 file
     ∷ []
 
 abbrev expected : List (Reply Records)
-expected = taken 3 0 ∷ taken 0 0 ∷ taken 2 9 ∷ taken 1 10 ∷ taken 1 11 ∷ taken 0 2 ∷ refused 5 ∷ refused 7 ∷ refused 6 ∷ []
+expected = taken 3 0 ∷ taken 0 0 ∷ taken 2 9 ∷ taken 1 10 ∷ taken 1 11 ∷ taken 0 2 ∷ refused 5 ∷ refused 7 ∷ refused 6 ∷ taken 3 0 ∷ taken 2 12 ∷ taken 1 12 ∷ []
 
 pub as-answered : found ≡ expected
 unfolding addRecords

@@ -1,29 +1,43 @@
 // A graph whose nodes and half-edges are chained: all of them at first, and then what each addition
-// brings.
+// brings. The places that line ids use are marked once, and the lowest free one only moves on.
 ghost use mathlib.Core.Path.{_≡_};
 ghost use Prim.Native.Nat.{_+_, _*_, _≤_};
 ghost use lib.ListN.{length, replicate};
 ghost use Rattle.rules.specs.Limits.{limits};
 ghost use Rattle.rules.specs.Adding.{add};
 ghost use Rattle.tables.specs.Regions.{stateIn, xsIn, ysIn, sourcesIn, targetsIn, starTableIn};
+ghost use Rattle.line_ids.specs.Free.{FreeAt};
 ghost use Rattle.calls.specs.Replies.{left};
 ghost use Rattle.adding.specs.Outcomes.{Ready, replyOf};
 ghost use Rattle.making.specs.Matching.{SearchableIn, FoundIn};
 ghost use Rattle.lookup.specs.Codes.{nodeHeads, halfHeads};
 ghost use Rattle.lookup.specs.Indexed.{NodesChained, HalvesChained, Indexed};
-use adding::Added;
+use adding::AddReply;
 use geometry::Line3D;
 use lookup::enter_halves;
 use lookup::enter_nodes;
 use lookup::find_half;
 use lookup::find_node;
+use making::IdPlace;
 use making::Matches;
 use making::add_found;
+use placing::free_after;
+use placing::seek_line;
 use tables::DEGREES;
+use tables::LIST_PLACES;
+use tables::MAX_PAIRS;
 use tables::NODES_Y;
 use tables::NODES_Z;
 use tables::PlanarGraph;
 use tables::TARGETS;
+
+// The state after an addition, its answer, and the lowest free place for the next one, MAX_PAIRS where
+// there is none.
+pub struct Addition {
+    pub graph: PlanarGraph,
+    pub reply: AddReply,
+    pub free: u16,
+}
 
 // Chains the nodes and half-edges of a graph that has more of them than are chained.
 fn chain_more(
@@ -52,7 +66,7 @@ fn chain_more(
     );
     enter_halves(
         &numbers[0..TARGETS],
-        &numbers[TARGETS..],
+        &numbers[TARGETS..LIST_PLACES],
         &stars[0..DEGREES],
         half_chains,
         2 * chained.edge_count,
@@ -113,7 +127,7 @@ fn find_chained(
     let half = find_half(
         graph.edge_count,
         &numbers[0..TARGETS],
-        &numbers[TARGETS..],
+        &numbers[TARGETS..LIST_PLACES],
         &stars[0..DEGREES],
         half_chains,
         start,
@@ -122,10 +136,13 @@ fn find_chained(
     Matches { start, end, half }
 }
 
-// Adds a line to a graph that is roomy, sound, in stage 0 and chained, and chains what is new.
+// Adds a line to a graph that is roomy, sound, in stage 0 and chained, with the lowest free place told,
+// and chains what is new.
 pub fn add_chained(
     graph: PlanarGraph,
     line: Line3D,
+    free: u16,
+    used: &[bool; MAX_PAIRS],
     floats: &mut [f64],
     numbers: &mut [u16],
     stars: &mut [u16],
@@ -133,14 +150,16 @@ pub fn add_chained(
     ids: &mut [u32],
     node_chains: &mut [u16],
     half_chains: &mut [u16],
-) -> Added
+) -> Addition
     requires { ⌜ Ready limits (stateIn limits graph (now floats) (now numbers) (now stars) (now marks) (now ids)) ⌝ }
+    requires { ⌜ FreeAt limits (stateIn limits graph (now floats) (now numbers) (now stars) (now marks) (now ids)) (now used) free ⌝ }
     requires { ⌜ Indexed limits (stateIn limits graph (now floats) (now numbers) (now stars) (now marks) (now ids)) (now «node_chains») (now «half_chains») ⌝ }
     ensures outcome { λ r. ⌜ left (replyOf (r .reply)) (stateIn limits (r .graph) (now (floats .exit)) (now (numbers .exit)) (now (stars .exit)) (now (marks .exit)) (now (ids .exit)))
         ≡ add limits line (stateIn limits graph (now (floats .entry)) (now (numbers .entry)) (now (stars .entry)) (now (marks .entry)) (now (ids .entry))) ⌝ }
+    ensures place { λ r. ⌜ FreeAt limits (stateIn limits (r .graph) (now (floats .exit)) (now (numbers .exit)) (now (stars .exit)) (now (marks .exit)) (now (ids .exit))) (now (used .entry)) (r .free) ⌝ }
     ensures chains { λ r. ⌜ Indexed limits (stateIn limits (r .graph) (now (floats .exit)) (now (numbers .exit)) (now (stars .exit)) (now (marks .exit)) (now (ids .exit))) (now («node_chains» .exit)) (now («half_chains» .exit)) ⌝ }
 {
-    let matches = find_chained(
+    let found = find_chained(
         graph,
         line,
         floats,
@@ -149,16 +168,23 @@ pub fn add_chained(
         node_chains,
         half_chains,
     );
-    let added = add_found(graph, line, matches, floats, numbers, stars, marks, ids);
-    let after = added.graph;
-    chain_more(
-        graph,
-        after,
-        floats,
-        numbers,
-        stars,
-        node_chains,
-        half_chains,
-    );
-    added
+    let half = found.half;
+    let sought = seek_line(graph.edge_count, half, line.line_id, numbers, ids);
+    let known = sought.known;
+    let behind = sought.behind;
+    let spot = IdPlace {
+        known,
+        behind,
+        free,
+    };
+    let added = add_found(graph, line, found, spot, floats, numbers, stars, marks, ids);
+    let new = added.graph;
+    let reply = added.reply;
+    chain_more(graph, new, floats, numbers, stars, node_chains, half_chains);
+    let next = free_after(reply, known, free, used);
+    Addition {
+        graph: new,
+        reply,
+        free: next,
+    }
 }

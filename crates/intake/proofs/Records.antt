@@ -10,7 +10,7 @@ use Rattle.rules.specs.Adding.{add}
 use Rattle.rules.specs.SegmentFile.{Read, segment, wrong, end}
 use Rattle.adding.specs.Outcomes.{Ready}
 use Rattle.adding.specs.declared.Decision.{Decision}
-use Rattle.adding.specs.declared.Decision.the-variants.{Make, Keep, Refuse}
+use Rattle.adding.specs.declared.Decision.the-variants.{Make, Enter, Keep, Refuse}
 use Rattle.adding.proofs.Carrying.{carried, decided, add-carried, ready-again}
 use Rattle.intake.specs.Taking.{alone, takeRecord}
 
@@ -28,6 +28,7 @@ never e = let z : _≡_ {A = ℕ} 0 1 = cc in omega arith
 carried-keeps : (d : Decision) (g : Line3D) (s : State) (n : ℕ) → alone (carried d g s .reply) ≡ refused n → carried d g s .state ≡ s
 carried-keeps (Refuse why) g s n e = refl
 carried-keeps (Keep k) g s n e = refl
+carried-keeps (Enter k) g s n e = absurd (never e)
 carried-keeps (Make ends) g s n e = absurd (never e)
 
 -- neither does any refused record

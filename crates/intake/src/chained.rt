@@ -1,7 +1,9 @@
-// Taking records into a graph whose nodes and half-edges are chained.
+// Taking records into a graph whose nodes and half-edges are chained, with the places marked that line
+// ids used at first.
 ghost use mathlib.Core.Path.{_≡_};
 ghost use Rattle.adding.specs.Outcomes.{Ready};
 ghost use Rattle.adding.specs.Outcomes.{replyOf as addReplyOf};
+ghost use Rattle.line_ids.specs.Free.{FreeAt};
 ghost use Rattle.lookup.specs.Indexed.{Indexed};
 ghost use Rattle.rules.specs.Limits.{limits};
 ghost use Rattle.rules.specs.SegmentFile.{readAt};
@@ -15,6 +17,7 @@ use adding::AddReply;
 use segment_file::RECORD_BYTES;
 use segment_file::Record;
 use segment_file::file_number;
+use tables::MAX_PAIRS;
 use tables::PlanarGraph;
 use tables::refusal_number;
 
@@ -30,11 +33,13 @@ fn taken_reply(reply: AddReply) -> TakeReply
 }
 
 // The record at a place: its segment is added to the graph, which is in stage 0, passed numbers 6 and
-// 7 and is chained.
+// 7 and is chained, with the lowest free place told.
 fn take_record(
     graph: PlanarGraph,
     bytes: &[u8],
     at: usize,
+    free: u16,
+    used: &[bool; MAX_PAIRS],
     floats: &mut [f64],
     numbers: &mut [u16],
     stars: &mut [u16],
@@ -44,9 +49,11 @@ fn take_record(
     half_chains: &mut [u16],
 ) -> Turn
     requires { ⌜ Ready limits (stateIn limits graph (now floats) (now numbers) (now stars) (now marks) (now ids)) ⌝ }
+    requires { ⌜ FreeAt limits (stateIn limits graph (now floats) (now numbers) (now stars) (now marks) (now ids)) (now used) free ⌝ }
     requires { ⌜ Indexed limits (stateIn limits graph (now floats) (now numbers) (now stars) (now marks) (now ids)) (now «node_chains») (now «half_chains») ⌝ }
     ensures turn { λ r. ⌜ turnOf r (now (floats .exit)) (now (numbers .exit)) (now (stars .exit)) (now (marks .exit)) (now (ids .exit))
         ≡ takeRecord limits (readAt (now (bytes .entry)) at) (stateIn limits graph (now (floats .entry)) (now (numbers .entry)) (now (stars .entry)) (now (marks .entry)) (now (ids .entry))) ⌝ }
+    ensures place { λ r. ⌜ FreeAt limits (stateIn limits (r .graph) (now (floats .exit)) (now (numbers .exit)) (now (stars .exit)) (now (marks .exit)) (now (ids .exit))) (now (used .entry)) (r .free) ⌝ }
     ensures chains { λ r. ⌜ Indexed limits (stateIn limits (r .graph) (now (floats .exit)) (now (numbers .exit)) (now (stars .exit)) (now (marks .exit)) (now (ids .exit))) (now («node_chains» .exit)) (now («half_chains» .exit)) ⌝ }
 {
     match segment_file::read_record(bytes, at) {
@@ -54,6 +61,8 @@ fn take_record(
             let added = indexing::add_chained(
                 graph,
                 line,
+                free,
+                used,
                 floats,
                 numbers,
                 stars,
@@ -67,15 +76,18 @@ fn take_record(
             Turn {
                 graph: after,
                 reply: taken_reply(answer),
+                free: added.free,
             }
         }
         Record::Refused(why) => Turn {
             graph,
             reply: TakeReply::Refused(file_number(why)),
+            free,
         },
         Record::End => Turn {
             graph,
             reply: TakeReply::Done,
+            free,
         },
     }
 }
@@ -85,6 +97,8 @@ fn take_record(
 pub fn take_chained(
     graph: PlanarGraph,
     bytes: &[u8],
+    free: u16,
+    used: &[bool; MAX_PAIRS],
     floats: &mut [f64],
     numbers: &mut [u16],
     stars: &mut [u16],
@@ -94,18 +108,22 @@ pub fn take_chained(
     half_chains: &mut [u16],
 ) -> Taken
     requires { ⌜ Ready limits (stateIn limits graph (now floats) (now numbers) (now stars) (now marks) (now ids)) ⌝ }
+    requires { ⌜ FreeAt limits (stateIn limits graph (now floats) (now numbers) (now stars) (now marks) (now ids)) (now used) free ⌝ }
     requires { ⌜ Indexed limits (stateIn limits graph (now floats) (now numbers) (now stars) (now marks) (now ids)) (now «node_chains») (now «half_chains») ⌝ }
     ensures { λ r. ⌜ takingOf r (now (floats .exit)) (now (numbers .exit)) (now (stars .exit)) (now (marks .exit)) (now (ids .exit))
         ≡ takeRecords limits (now (bytes .entry)) (stateIn limits graph (now (floats .entry)) (now (numbers .entry)) (now (stars .entry)) (now (marks .entry)) (now (ids .entry))) ⌝ }
 {
     let whole = bytes.len() / RECORD_BYTES;
     let mut current = graph;
+    let mut place = free;
     let mut count = 0;
     while count < whole {
         let turn = take_record(
             current,
             bytes,
             RECORD_BYTES * count,
+            place,
+            used,
             floats,
             numbers,
             stars,
@@ -124,6 +142,7 @@ pub fn take_chained(
             };
         }
         current = after;
+        place = turn.free;
         count += 1;
     }
     Taken {

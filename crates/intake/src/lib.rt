@@ -1,6 +1,7 @@
 // Taking the records of a segment file into a graph that is being built. The state is tested by
-// whoever calls, once; each addition leaves it as the next one needs it. The graph is chained here, once
-// for all the records, so that an addition looks at few nodes and half-edges.
+// whoever calls, once; each addition leaves it as the next one needs it. The graph is chained and the
+// places that line ids use are marked here, once for all the records, so that an addition looks at few
+// nodes, half-edges and places.
 ghost use mathlib.Core.Path.{_≡_};
 ghost use Rattle.adding.specs.Outcomes.{Ready};
 ghost use Rattle.rules.specs.Limits.{limits};
@@ -26,10 +27,11 @@ pub enum TakeReply {
     Refused(u32),
 }
 
-// The counts and the stage after one record, and its answer.
+// The counts and the stage after one record, its answer, and the lowest free place for a line id.
 pub struct Turn {
     pub graph: PlanarGraph,
     pub reply: TakeReply,
+    pub free: u16,
 }
 
 // The same after many, and how many were taken: where one is refused, that is its number from 0.
@@ -65,6 +67,8 @@ pub fn take_records(
     ensures { λ r. ⌜ takingOf r (now (floats .exit)) (now (numbers .exit)) (now (stars .exit)) (now (marks .exit)) (now (ids .exit))
         ≡ takeRecords limits (now (bytes .entry)) (stateIn limits graph (now (floats .entry)) (now (numbers .entry)) (now (stars .entry)) (now (marks .entry)) (now (ids .entry))) ⌝ }
 {
+    let used = placing::mark_lists(graph.edge_count, numbers);
+    let free = line_ids::next_free(0, &used);
     let mut node_chains = [0u16; NODE_CHAINS];
     let mut half_chains = [0u16; HALF_CHAINS];
     indexing::chain_all(
@@ -78,6 +82,8 @@ pub fn take_records(
     take_chained(
         graph,
         bytes,
+        free,
+        &used,
         floats,
         numbers,
         stars,

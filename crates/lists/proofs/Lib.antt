@@ -10,3 +10,4 @@ pub mod Passing
 pub mod Entries
 pub mod Halving
 pub mod Inserting
+pub mod Rising

@@ -24,3 +24,8 @@ no-right a b e = ap (λ (t : Bool). a && t) e ∙ and-false a
 pub or-right : (a b : Bool) → b ≡ true → (a || b) ≡ true
 or-right true b e = refl
 or-right false b e = e
+
+-- a part without which the whole fails
+pub part : (x whole : Bool) → whole ≡ true → (x ≡ false → whole ≡ false) → x ≡ true
+part true whole e h = refl
+part false whole e h = absurd (true-is-false (sym e ∙ h refl))

@@ -1,6 +1,6 @@
 -- Lists of numbers: counting up, picking by a test, and the few folds that the rules use.
 use Prim.Native.Nat.{ℕ, zero, suc, _+_, _<_, _≤_, min}
-use mathlib.Core.Bool.{Bool, true, false, cond, _&&_}
+use mathlib.Core.Bool.{Bool, true, false, cond, _&&_, not}
 use mathlib.Core.List.{List, [], _∷_, _++_}
 use lib.Dec.{eqb, ltb}
 use lib.ListN.{length, drop}
@@ -40,6 +40,16 @@ abbrev pub all : (ℕ → Bool) → List ℕ → Bool
 all p [] = true
 all p (x ∷ xs) = p x && all p xs
 
+-- x is below the first member, and each member below the next
+abbrev pub risesFrom : ℕ → List ℕ → Bool
+risesFrom x [] = true
+risesFrom x (y ∷ ys) = ltb x y && risesFrom y ys
+
+-- each member is below the next
+abbrev pub rising : List ℕ → Bool
+rising [] = true
+rising (x ∷ xs) = risesFrom x xs
+
 -- a test as a number
 abbrev pub bit : Bool → ℕ
 bit true = 1
@@ -53,6 +63,11 @@ countOf x (y ∷ ys) = bit (eqb x y) + countOf x ys
 -- x stands in the list, as a test
 abbrev pub member : ℕ → List ℕ → Bool
 member x xs = ltb 0 (countOf x xs)
+
+-- each member once
+abbrev pub once : List ℕ → List ℕ
+once [] = []
+once (x ∷ xs) = keep (not (member x xs)) x (once xs)
 
 -- x stands in the list, as a fact
 abbrev pub In : ℕ → List ℕ → Type 0

@@ -1,5 +1,6 @@
 -- No tracing can stop a consultation: the law of the rules, of what the entries' clauses give.
 use Prim.Native.Nat.{ℕ}
+use native.Mathlib.Omega.{arith}
 use mathlib.Core.Path.{_≡_, refl, sym, ap, subst, _∙_}
 use mathlib.Core.List.{List}
 use Rattle.geometry.specs.Reply.{Reply}
@@ -73,4 +74,4 @@ unfolding NoTracingStops NoFileStops
 no-tracing-stops tables new none c steps run =
     let n = created-new tables new none c in
     going-on (ends new steps)
-    (subst (λ w. Going limits (w .state)) (run-acts new emptySketch steps run) (no-file-stops limits new (n .0) (n .1) (n .2) (n .3) (actsOf steps)))
+    (subst (λ w. Going limits (w .state)) (run-acts new emptySketch steps run) (no-file-stops limits (omega arith) new (n .0) (n .1) (n .2) (n .3) (actsOf steps)))

@@ -4,3 +4,5 @@ pub mod Acts
 pub mod Demand3
 -- no tracing can stop a consultation
 pub mod Going
+-- the line ids behind each edge
+pub mod Behind

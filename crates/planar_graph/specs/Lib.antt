@@ -1,3 +1,4 @@
 -- What follows of every list of calls. Read in this order.
 pub mod Runs
 pub mod Going
+pub mod LineIds

@@ -101,7 +101,7 @@ read-back n h = ap (λ b. cond b n 255) (lt-ltb n 256 h)
 -- the tables of a state with other counts
 abbrev recounted : PlanarGraph → State → State
 recounted g s =
-    stateOf g (s .nodeX) (s .nodeY) (s .nodeZ) (s .degree) (s .nodeMark) (s .segment) (s .lineId) (s .source) (s .target) (s .halfMark) (s .star)
+    stateOf g (s .nodeX) (s .nodeY) (s .nodeZ) (s .degree) (s .nodeMark) (s .segment) (s .lineId) (s .source) (s .target) (s .halfMark) (s .star) (s .tracings)
 
 module _ {A L : Type 0} (values : A → List ℕ) (k k′ : Lent L) (o : Outcome A L) (keeps : Keeps (heldIn k) (k .lists) o) (g : PlanarGraph) (row : List Bool) where
   -- the state that the public entry left, with a graph

@@ -4,27 +4,28 @@ use native.Mathlib.Omega.{arith}
 use mathlib.Core.Path.{_≡_, refl, sym, ap, ap₂, subst, _∙_}
 use mathlib.Core.Logic.{inl, inr}
 use mathlib.Core.Bool.{Bool, true, false, cond, _&&_}
-use lib.Dec.{eqb, ltb, leb}
+use lib.Dec.{eqb}
 use lib.ListN.{length, getD, length-set}
 use lib.Ieee.{Float, nan}
-use borrow.Author.Tests.{eqb-true, ne-eqb, leb-true, ltb-true}
+use borrow.Author.Tests.{eqb-true, ne-eqb}
 use Rattle.lists.specs.Lists.{upto, firstWhere}
 use Rattle.geometry.specs.Coordinate.{coordinate}
 use Rattle.rules.specs.Keys.{keyOf}
 use Rattle.rotation.specs.Rotation.{keySame}
 use Rattle.geometry.specs.Angle.{Point, planar, pointOfCoord}
 use Rattle.rules.specs.Limits.{Limits}
-use Rattle.rules.specs.State.{State, pointOf, nodeKey, soundCoordinates}
+use Rattle.rules.specs.State.{State, starOf, pointOf, nodeKey, soundCoordinates}
 use Rattle.geometry.specs.declared.Coord3D.{Coord3D}
 use Rattle.geometry.specs.declared.Line3D.{Line3D}
-use Rattle.rules.specs.Adding.{Outcome, demand, findNode, withNode, withEdge}
+use Rattle.rules.specs.Adding.{Outcome, demand, findNode, withNode, withEdge, withId}
 use Rattle.rules.specs.Sketch.{Sketch, noLine, pointAt, Call, samePoint, findPoint, withPoint, havePoint, joins, withLine, sketchAdd, feed}
 use Rattle.rules.specs.Claim.{isRefused}
 use Rattle.lists.proofs.Counts.{by-test, true-is-false}
 use Rattle.lists.proofs.Tests.{both}
-use Rattle.rules.proofs.Soundness.{Roomy, Sound}
+use Rattle.rules.proofs.Soundness.{Sound}
 use Rattle.rules.proofs.Sketches.{Good}
 use Rattle.rules.proofs.SketchCalls.{upto-below, find-is, Has, has-find, has-more, has-had, have-is}
+use Rattle.rules.proofs.AddCases.{u, w, nu, nv, v, s₂, Tested, New}
 use Rattle.rules.proofs.Following.{Tracks}
 use Rattle.rules.proofs.Finding.{first-same, find-hit}
 use Rattle.rules.proofs.Growing.{tracks-node, tracks-edge}
@@ -108,6 +109,22 @@ module _ (s : State) (k : Sketch) (a b : Coord3D) (t : Tracks s k) (ra : Is64 (a
       subst (λ z. Tracks (withNode true z b s) (withPoint true (pointOfCoord b) k)) (sym (ew refl)) (tracks-node s k b t rb young (omega arith) (omega arith) (omega arith))
   grown false false u w eu ew rx ry rm = t
 
+-- an id more is nothing that a sketch has
+pub tracks-id : (known : Bool) (pairs e i p : ℕ) (s : State) (k : Sketch) → Tracks s k → Tracks (withId known pairs e i p s) k
+unfolding pointOf starOf
+tracks-id true pairs e i p s k t = t
+tracks-id false pairs e i p s k t = record {
+  nodes = t .nodes;
+  edges = t .edges;
+  points = t .points;
+  stored = t .stored;
+  origins = t .origins;
+  marks = t .marks;
+  nodeMarks = t .nodeMarks;
+  room = t .room;
+  stars = t .stars;
+}
+
 -- what a node more does not touch
 kept : (b : Bool) (n : ℕ) (c : Coord3D) (s : State)
     → (withNode b n c s .stage ≡ s .stage) × (withNode b n c s .edges ≡ s .edges) × (withNode b n c s .source ≡ s .source) × (withNode b n c s .halfMark ≡ s .halfMark)
@@ -136,114 +153,88 @@ module _ (g : Line3D) (s : State) where
   abbrev pub Q : Point
   Q = pointOfCoord (g .end)
 
-  -- the node of the start: found, or the next one
-  abbrev pub u : ℕ
-  u = findNode s (keyOf (g .start .x) (g .start .y))
-
-  -- the node of the end, as found
-  abbrev pub w : ℕ
-  w = findNode s (keyOf (g .end .x) (g .end .y))
-
-  -- whether the start is new
-  abbrev pub nu : Bool
-  nu = eqb u (s .nodes)
-
-  -- whether the end is
-  abbrev pub nv : Bool
-  nv = eqb w (s .nodes)
-
-  -- the node of the end: found, or the next one
-  abbrev pub v : ℕ
-  v = cond (nu && nv) (suc (s .nodes)) w
-
-  -- the state with both ends
-  abbrev pub s₂ : State
-  s₂ = withNode nv v (g .end) (withNode nu u (g .start) s)
-
-  module _ (l : Limits) (k : Sketch) (fine : l .bound ≤ 2 ^ 53) (real : Given64 g) (good : Good k) (simple : Simple k) (t : Tracks s k)
-      (room : Roomy l s) (ok : Sound l s) (young : s .stage ≡ 0) (wp : planar (l .bound) (g .start) ≡ true) (wq : planar (l .bound) (g .end) ≡ true)
-      (differ : keySame (keyOf (g .start .x) (g .start .y)) (keyOf (g .end .x) (g .end .y)) ≡ false) where
+  module _ (l : Limits) (k : Sketch) (fine : l .bound ≤ 2 ^ 53) (real : Given64 g) (good : Good k) (simple : Simple k) (t : Tracks s k) (d : Tested l g s) where
     -- the sketch with both ends
     abbrev pub k₂ : Sketch
-    k₂ = withPoint nv Q (withPoint nu P k)
+    k₂ = withPoint (nv g s) Q (withPoint (nu g s) P k)
 
     -- the ends are different points
     apart : samePoint P Q ≡ false
-    apart = ends-differ l fine (g .start) (g .end) (real .0) (real .1) wp wq differ
+    apart = ends-differ l fine (g .start) (g .end) (real .0) (real .1) (d .wholeStart) (d .wholeEnd) (d .differ)
 
     -- both find the start alike
-    found-u : u ≡ findPoint k P
-    found-u = find-node l fine s k ok t (g .start) (real .0) wp
+    found-u : (u g s) ≡ findPoint k P
+    found-u = find-node l fine s k (d .ok) t (g .start) (real .0) (d .wholeStart)
 
     -- and the end
-    found-w : w ≡ findPoint k Q
-    found-w = find-node l fine s k ok t (g .end) (real .1) wq
+    found-w : (w g s) ≡ findPoint k Q
+    found-w = find-node l fine s k (d .ok) t (g .end) (real .1) (d .wholeEnd)
 
     -- where the sketch finds the ends
-    both-ends : (havePoint Q (havePoint P k) ≡ k₂) × (findPoint k₂ P ≡ u) × (findPoint k₂ Q ≡ v)
+    both-ends : (havePoint Q (havePoint P k) ≡ k₂) × (findPoint k₂ P ≡ (u g s)) × (findPoint k₂ Q ≡ (v g s))
     both-ends =
-        let r = ends-of k P Q apart nu nv (ap₂ eqb (sym found-u) (sym (t .nodes))) (ap₂ eqb (sym found-w) (sym (t .nodes))) in
-        (r .0, r .1 ∙ sym found-u, r .2 ∙ ap₂ (cond (nu && nv)) (ap suc (sym (t .nodes))) (sym found-w))
+        let r = ends-of k P Q apart (nu g s) (nv g s) (ap₂ eqb (sym found-u) (sym (t .nodes))) (ap₂ eqb (sym found-w) (sym (t .nodes))) in
+        (r .0, r .1 ∙ sym found-u, r .2 ∙ ap₂ (cond ((nu g s) && (nv g s))) (ap suc (sym (t .nodes))) (sym found-w))
 
     -- the ends leave the lines
     lines-of : k₂ .lines ≡ k .lines
-    lines-of = lines-kept nv Q (withPoint nu P k) ∙ lines-kept nu P k
+    lines-of = lines-kept (nv g s) Q (withPoint (nu g s) P k) ∙ lines-kept (nu g s) P k
 
     -- what the addition does to the sketch
-    pub sketch-is : sketchAdd g k ≡ withLine (joins u v (k .lines)) u v k₂
+    pub sketch-is : sketchAdd g k ≡ withLine (joins (u g s) (v g s) (k .lines)) (u g s) (v g s) k₂
     unfolding sketchAdd
     sketch-is =
         ap (λ z. withLine (joins (findPoint z P) (findPoint z Q) (z .lines)) (findPoint z P) (findPoint z Q) z) (both-ends .0)
         ∙ ap₂ (λ a b. withLine (joins a b (k₂ .lines)) a b k₂) (both-ends .1) (both-ends .2)
-        ∙ ap (λ ls. withLine (joins u v ls) u v k₂) lines-of
+        ∙ ap (λ ls. withLine (joins (u g s) (v g s) ls) (u g s) (v g s) k₂) lines-of
 
     -- an edge is there: so are its ends, and nothing changes
-    old-ends : joins u v (k .lines) ≡ true → (u < s .nodes) × (v < s .nodes)
-    old-ends j = let r = joins-line u v (k .lines) j in go (r .0) (r .1) (r .2)
+    old-ends : joins (u g s) (v g s) (k .lines) ≡ true → ((u g s) < s .nodes) × ((v g s) < s .nodes)
+    old-ends j = let r = joins-line (u g s) (v g s) (k .lines) j in go (r .0) (r .1) (r .2)
       where
-        go : (i : ℕ) → i < length (k .lines) → Between (getD (k .lines) i noLine) u v → (u < s .nodes) × (v < s .nodes)
+        go : (i : ℕ) → i < length (k .lines) → Between (getD (k .lines) i noLine) (u g s) (v g s) → ((u g s) < s .nodes) × ((v g s) < s .nodes)
         go i q (inl e) = (omega (arith, good .from i q, t .nodes), omega (arith, good .to i q, t .nodes))
         go i q (inr e) = (omega (arith, good .to i q, t .nodes), omega (arith, good .from i q, t .nodes))
 
     -- then the sketch stays as it is
-    pub old-sketch : joins u v (k .lines) ≡ true → sketchAdd g k ≡ k
+    pub old-sketch : joins (u g s) (v g s) (k .lines) ≡ true → sketchAdd g k ≡ k
     old-sketch j =
         let o = old-ends j in
-        let a : nu ≡ false = ne-eqb u (s .nodes) (λ e. omega arith) in
-        let b : nv ≡ false = by-test nv
+        let a : (nu g s) ≡ false = ne-eqb (u g s) (s .nodes) (λ e. omega arith) in
+        let b : (nv g s) ≡ false = by-test (nv g s)
         (λ e.
-        let c : v ≡ w = ap (λ z. cond (z && nv) (suc (s .nodes)) w) a in
-        absurd (omega (arith, eqb-true w (s .nodes) e)))
+        let c : (v g s) ≡ (w g s) = ap (λ z. cond (z && (nv g s)) (suc (s .nodes)) (w g s)) a in
+        absurd (omega (arith, eqb-true (w g s) (s .nodes) e)))
         (λ e. e) in
-        sketch-is ∙ ap (λ z. withLine z u v k₂) j ∙ ap₂ (λ x y. withPoint y Q (withPoint x P k)) a b
+        sketch-is ∙ ap (λ z. withLine z (u g s) (v g s) k₂) j ∙ ap₂ (λ x y. withPoint y Q (withPoint x P k)) a b
 
     -- the ends are different points
-    new-ends : u ≡ v → ⊥
+    new-ends : (u g s) ≡ (v g s) → ⊥
     new-ends e =
         let k₁ = havePoint P k in
         let hp : Has k₂ P = subst (λ z. Has z P) (both-ends .0) (rw (have-is Q k₁) (has-more k₁ (eqb (findPoint k₁ Q) (length (k₁ .points))) P Q (has-had P k))) in
         let hq : Has k₂ Q = subst (λ z. Has z Q) (both-ends .0) (has-had Q k₁) in
-        let a : pointAt k₂ u ≡ P = ap (pointAt k₂) (sym (both-ends .1)) ∙ same-point (pointAt k₂ (findPoint k₂ P)) P (find-hit k₂ P (has-find k₂ P hp)) in
-        let b : pointAt k₂ v ≡ Q = ap (pointAt k₂) (sym (both-ends .2)) ∙ same-point (pointAt k₂ (findPoint k₂ Q)) Q (find-hit k₂ Q (has-find k₂ Q hq)) in
+        let a : pointAt k₂ (u g s) ≡ P = ap (pointAt k₂) (sym (both-ends .1)) ∙ same-point (pointAt k₂ (findPoint k₂ P)) P (find-hit k₂ P (has-find k₂ P hp)) in
+        let b : pointAt k₂ (v g s) ≡ Q = ap (pointAt k₂) (sym (both-ends .2)) ∙ same-point (pointAt k₂ (findPoint k₂ Q)) Q (find-hit k₂ Q (has-find k₂ Q hq)) in
         let c : P ≡ Q = sym a ∙ ap (pointAt k₂) e ∙ b in
         true-is-false (sym (same-point-self P) ∙ ap (samePoint P) c ∙ apart)
 
     -- a new line leaves the sketch simple
-    pub new-simple : joins u v (k .lines) ≡ false → Simple (withLine false u v k₂)
+    pub new-simple : joins (u g s) (v g s) (k .lines) ≡ false → Simple (withLine false (u g s) (v g s) k₂)
     new-simple j =
-        simple-line k₂ u v (subst Simple (both-ends .0) (simple-have Q (havePoint P k) (simple-have P k simple))) new-ends (ap (joins u v) lines-of ∙ j)
+        simple-line k₂ (u g s) (v g s) (subst Simple (both-ends .0) (simple-have Q (havePoint P k) (simple-have P k simple))) new-ends (ap (joins (u g s) (v g s)) lines-of ∙ j)
 
     -- new nodes and a new edge, in tables and sketch
-    pub new-tracks : leb (s .nodes + (cond nu 1 0 + cond nv 1 0)) (l .nodes) ≡ true → ltb (s .edges) (l .edges) ≡ true → Tracks (withEdge u v g s₂) (withLine false u v k₂)
-    new-tracks fn fe =
-        let n : s .nodes + (cond nu 1 0 + cond nv 1 0) ≤ l .nodes = leb-true _ _ fn in
-        let e : s .edges < l .edges = ltb-true _ _ fe in
-        let x = kept nv v (g .end) (withNode nu u (g .start) s) in
-        let y = kept nu u (g .start) s in
-        let edges : s₂ .edges ≡ s .edges = x .1 ∙ y .1 in
-        tracks-edge s₂ k₂ u v g
-        (grown s k (g .start) (g .end) t (real .0) (real .1) young nu nv u w (eqb-true u (s .nodes)) (eqb-true w (s .nodes))
-        (omega (arith, room .nodeX)) (omega (arith, room .nodeY)) (omega (arith, room .nodeMark)))
-        (x .0 ∙ y .0 ∙ young)
-        (omega (arith, ap length (x .2 ∙ y .2), room .source))
-        (omega (arith, ap length (x .3 ∙ y .3), room .halfMark))
+    pub new-tracks : New l g s → (p : ℕ) → Tracks (withEdge (u g s) (v g s) p g (s₂ g s)) (withLine false (u g s) (v g s) k₂)
+    new-tracks new p =
+        let n = new .nodes in
+        let e = new .edges in
+        let x = kept (nv g s) (v g s) (g .end) (withNode (nu g s) (u g s) (g .start) s) in
+        let y = kept (nu g s) (u g s) (g .start) s in
+        let edges : s₂ g s .edges ≡ s .edges = x .1 ∙ y .1 in
+        tracks-edge (s₂ g s) k₂ (u g s) (v g s) p g
+        (grown s k (g .start) (g .end) t (real .0) (real .1) (d .young) (nu g s) (nv g s) (u g s) (w g s) (eqb-true (u g s) (s .nodes)) (eqb-true (w g s) (s .nodes))
+        (omega (arith, d .room .nodeX)) (omega (arith, d .room .nodeY)) (omega (arith, d .room .nodeMark)))
+        (x .0 ∙ y .0 ∙ (d .young))
+        (omega (arith, ap length (x .2 ∙ y .2), d .room .source))
+        (omega (arith, ap length (x .3 ∙ y .3), d .room .halfMark))

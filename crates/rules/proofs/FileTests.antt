@@ -1,6 +1,6 @@
 -- A file keeps a state that passes 6, 7 and 5 such a state. A shell that tests them once before a file leaves and accepts what the file does
 -- without these tests: its first addition makes them itself.
-use Prim.Native.Nat.{ℕ}
+use Prim.Native.Nat.{ℕ, _≤_}
 use mathlib.Core.Path.{_≡_, refl, sym, ap, subst, _∙_}
 use mathlib.Core.Bool.{Bool, true, false, _&&_}
 use mathlib.Core.List.{List, [], _∷_}
@@ -8,13 +8,15 @@ use lib.Dec.{eqb}
 use Rattle.geometry.specs.Reply.{Reply, refused, success}
 use Rattle.geometry.specs.declared.Line3D.{Line3D}
 use Rattle.rules.specs.Limits.{Limits}
+use Rattle.rules.specs.LineIds.{listEnd}
 use Rattle.rules.specs.State.{State, roomy, sound}
 use Rattle.rules.specs.Adding.{Outcome, demand, Added, add}
 use Rattle.rules.specs.Stages.{step}
 use Rattle.rules.specs.Claim.{isRefused}
 use Rattle.rules.specs.Filing.{Filed, orFiled, filed}
 use Rattle.lists.proofs.Counts.{true-is-false}
-use Rattle.rules.proofs.AddingSound.{Steady, add-steady}
+use Rattle.rules.proofs.NodeSound.{Steady}
+use Rattle.rules.proofs.AddingSound.{add-steady}
 use Rattle.rules.proofs.Filing.{filed-none, filed-one}
 
 -- ---- a state that passes them
@@ -25,12 +27,12 @@ first-steady l (refused n) g s rest t more = t
 first-steady l (success a) g s rest t more = more
 
 -- a file keeps it: long enough, sound and in stage 0
-pub filed-steady : (l : Limits) (gs : List Line3D) (s : State) → Steady l s → Steady l (filed l gs s .state)
-filed-steady l [] s t = subst (λ f. Steady l (f .state)) (sym (filed-none l s)) t
-filed-steady l (g ∷ gs) s t =
+pub filed-steady : (l : Limits) → l .pairs ≤ listEnd → (gs : List Line3D) (s : State) → Steady l s → Steady l (filed l gs s .state)
+filed-steady l small [] s t = subst (λ f. Steady l (f .state)) (sym (filed-none l s)) t
+filed-steady l small (g ∷ gs) s t =
     let o = add l g s in
     subst (λ f. Steady l (f .state)) (sym (filed-one l g gs s))
-    (first-steady l (o .reply) g s (filed l gs (o .state)) t (filed-steady l gs (o .state) (add-steady l g s t)))
+    (first-steady l (o .reply) g s (filed l gs (o .state)) t (filed-steady l small gs (o .state) (add-steady l small g s t)))
 
 -- ---- the tests of a shell
 

@@ -1,8 +1,8 @@
--- A file is a run of additions: its calls leave its state and feed the sketch its segments one by one. So what holds of every list of calls
--- holds of every list of calls and files.
-use Prim.Native.Nat.{ℕ, _+_, _*_}
+-- A file is a run of additions: its calls leave its state and feed the sketch with the segments that were accepted. So what holds of every
+-- list of calls holds of every list of calls and files.
+use Prim.Native.Nat.{ℕ, _+_, _*_, _≤_}
 use mathlib.Core.Path.{_≡_, refl, sym, ap, subst, _∙_}
-use mathlib.Core.Bool.{Bool, true, false, cond, _&&_, not}
+use mathlib.Core.Bool.{Bool, true, false, cond, _&&_, _||_, not}
 use mathlib.Core.List.{List, [], _∷_, _++_}
 use lib.Dec.{eqb, ltb, leb}
 use Rattle.geometry.specs.Angle.{planar}
@@ -12,8 +12,9 @@ use Rattle.lists.specs.Lists.{upto}
 use Rattle.rotation.specs.Rotation.{keySame}
 use Rattle.rules.specs.Keys.{keyOf}
 use Rattle.rules.specs.Limits.{Limits, Fine, limits}
+use Rattle.rules.specs.LineIds.{listEnd, lowestFree}
 use Rattle.rules.specs.State.{State, roomy, sound}
-use Rattle.rules.specs.Adding.{Outcome, demand, findHalf, Nothing, Added, add}
+use Rattle.rules.specs.Adding.{Outcome, demand, Nothing, Added, add}
 use Rattle.rules.specs.Ringing.{RingLists, Ringing, ringStep}
 use Rattle.rules.specs.SegmentFile.{end}
 use Rattle.rules.specs.Sketch.{Sketch, Call, adding, pointAt, sketched, feed}
@@ -21,7 +22,7 @@ use Rattle.rules.specs.Claim.{isRefused, call, World, turnWorld, history
 use Rattle.rules.specs.Going.{Going, NoTracingStops}
 use Rattle.rules.specs.Filing.{Filed, orFiled, filed, feedFile, Act, single, file, act, acts, callsOf, callsIn, EachGiven, AllGiven, FileClaim, NoFileStops}
 use Rattle.lists.proofs.Counts.{true-is-false}
-use Rattle.rules.proofs.Additions.{u, v, nu, nv}
+use Rattle.rules.proofs.AddCases.{nu, nv, half, used, known}
 use Rattle.rules.proofs.Histories.{whole-claim, fine-limits}
 use Rattle.rules.proofs.Going.{no-tracing-stops}
 
@@ -50,15 +51,16 @@ add-firm : (l : Limits) (g : Line3D) (s : State) → Firm s (add l g s)
 unfolding add
 add-firm l g s =
     let none : Nothing = record {} in
+    let some = ltb (lowestFree (used l g s)) (l .pairs) in
     demand-firm (roomy l s) 6 s none _
     (demand-firm (sound l s) 7 s none _
     (demand-firm (eqb (s .stage) 0) 5 s none _
     (demand-firm (planar (l .bound) (g .start) && planar (l .bound) (g .end)) 1 s none _
     (demand-firm (not (keySame (keyOf (g .start .x) (g .start .y)) (keyOf (g .end .x) (g .end .y)))) 2 s none _
-    (cond-firm s (ltb (findHalf s (u g s) (v g s)) (2 * s .edges)) _ _
-    (success-firm s _ _ refl)
+    (cond-firm s (ltb (half g s) (2 * s .edges)) _ _
+    (demand-firm (known l g s || some) 12 s none _ (success-firm s _ _ refl))
     (demand-firm (leb (s .nodes + (cond (nu g s) 1 0 + cond (nv g s) 1 0)) (l .nodes)) 3 s none _
-    (demand-firm (ltb (s .edges) (l .edges)) 4 s none _ (success-firm s _ _ refl))))))))
+    (demand-firm (ltb (s .edges) (l .edges)) 4 s none _ (demand-firm some 12 s none _ (success-firm s _ _ refl)))))))))
 
 -- ---- the calls of a file
 
@@ -177,10 +179,10 @@ unfolding Claim
 call-claim l fine s n e z room calls real out r = whole-claim l fine s n e z room calls real out r
 
 -- the other law of calls
-calls-go : (l : Limits) (s : State) → s .nodes ≡ 0 → s .edges ≡ 0 → s .stage ≡ 0 → roomy l s ≡ true
+calls-go : (l : Limits) → l .pairs ≤ listEnd → (s : State) → s .nodes ≡ 0 → s .edges ≡ 0 → s .stage ≡ 0 → roomy l s ≡ true
     → (calls : List Call) → Going l (history l calls (record { state = s; sketch = emptySketch }) .state)
 unfolding NoTracingStops
-calls-go l = no-tracing-stops l
+calls-go l small = no-tracing-stops l small
 
 -- DEMAND 3, for every list of calls and files
 pub file-claim : (l : Limits) → Fine l → FileClaim l
@@ -190,11 +192,11 @@ file-claim l fine s n e z room xs real out r =
     subst (λ v. Holds l out r v) (acts-history l xs w) (call-claim l fine s n e z room (callsIn l xs w) (calls-real l xs w real) out r)
 
 -- and that no tracing stops a consultation
-pub no-file-stops : (l : Limits) → NoFileStops l
+pub no-file-stops : (l : Limits) → l .pairs ≤ listEnd → NoFileStops l
 unfolding NoFileStops
-no-file-stops l s n e z room xs =
+no-file-stops l small s n e z room xs =
     let w : World = record { state = s; sketch = emptySketch } in
-    subst (λ v. Going l (v .state)) (acts-history l xs w) (calls-go l s n e z room (callsIn l xs w))
+    subst (λ v. Going l (v .state)) (acts-history l xs w) (calls-go l small s n e z room (callsIn l xs w))
 
 -- on this library's limits
 pub demand-3-files : FileClaim limits

@@ -1,4 +1,5 @@
--- Every call keeps tables long enough and sound, so no tracing can stop a consultation (demand 1).
+-- Every call keeps tables long enough and sound, so no tracing can stop a consultation (demand 1). The number that ends a list of ids
+-- must be no place: with more pairs than that an addition could leave a list of ids unsound.
 use Prim.Native.Nat.{ℕ, _*_, _≤_}
 use native.Mathlib.Omega.{arith}
 use mathlib.Core.Path.{_≡_, refl, sym, subst, _∙_}
@@ -11,6 +12,7 @@ use Rattle.geometry.specs.declared.Line3D.{Line3D}
 use Rattle.geometry.specs.Reply.{success}
 use Rattle.lists.specs.Lists.{over}
 use Rattle.rules.specs.Limits.{Limits, limits}
+use Rattle.rules.specs.LineIds.{listEnd, usedPlaces}
 use Rattle.rules.specs.State.{State, arrangement, roomy, sound}
 use Rattle.rules.specs.Adding.{Outcome, demand, add}
 use Rattle.rules.specs.Euler.{census}
@@ -19,6 +21,7 @@ use Rattle.rules.specs.Ringing.{RingLists, longEnough, ringed, ringStep}
 use Rattle.rules.specs.Sketch.{Call, adding, sorting, pruning, cutting, ringing, resetting}
 use Rattle.rules.specs.Claim.{call, World, turnWorld, history, emptySketch}
 use Rattle.rules.specs.Going.{Held, Goes, afterSort, afterPrune, afterCut, Tracing, Going, NoTracingStops, SoundGoes}
+use Rattle.lists.specs.Lists.{Distinct}
 use Rattle.lists.proofs.Counts.{by-eq, true-is-false}
 use Rattle.rules.proofs.Soundness.{is-roomy, is-sound}
 use Rattle.rules.proofs.Sounding.{roomy-true, sound-true}
@@ -49,9 +52,9 @@ unfolding add
 late-add l g s t d = step-stays l 0 s (record {}) _ t (λ z. absurd (d z))
 
 -- adding
-add-stays : (l : Limits) (g : Line3D) (s : State) → Stays l s → Stays l (add l g s .state)
-add-stays l g s t = by-eq (s .stage) 0
-    (λ z. let r = add-steady l g s (record { room = t .room; sense = t .sense; young = z }) in record { room = r .room; sense = r .sense })
+add-stays : (l : Limits) → l .pairs ≤ listEnd → (g : Line3D) (s : State) → Stays l s → Stays l (add l g s .state)
+add-stays l small g s t = by-eq (s .stage) 0
+    (λ z. let r = add-steady l small g s (record { room = t .room; sense = t .sense; young = z }) in record { room = r .room; sense = r .sense })
     (λ d. late-add l g s t d)
 
 -- sorting
@@ -72,24 +75,25 @@ unfolding cutStep
 cut-step-stays l s out t = step-stays l 2 s out _ t (λ z. demand-stays l (leb (s .edges) (length out)) 8 s out _ t (λ e8. cut-stays l s t))
 
 -- any call
-pub call-stays : (l : Limits) (c : Call) (s : State) → Stays l s → Stays l (call l c s .state)
+pub call-stays : (l : Limits) → l .pairs ≤ listEnd → (c : Call) (s : State) → Stays l s → Stays l (call l c s .state)
 unfolding call
-call-stays l (adding g) s t = add-stays l g s t
-call-stays l sorting s t = sort-stays l s t
-call-stays l (pruning out) s t = prune-stays l s out t
-call-stays l (cutting out) s t = cut-step-stays l s out t
-call-stays l (ringing out) s t = step-stays l 3 s out _ t (λ z. demand-stays l (longEnough (2 * s .edges) out) 8 s out _ t (λ e8. ring-stays l s t))
-call-stays l resetting s t =
+call-stays l small (adding g) s t = add-stays l small g s t
+call-stays l small sorting s t = sort-stays l s t
+call-stays l small (pruning out) s t = prune-stays l s out t
+call-stays l small (cutting out) s t = cut-step-stays l s out t
+call-stays l small (ringing out) s t = step-stays l 3 s out _ t (λ z. demand-stays l (longEnough (2 * s .edges) out) 8 s out _ t (λ e8. ring-stays l s t))
+call-stays l small resetting s t =
     demand-stays l (roomy l s) 6 s (record {}) _ t (λ e6. demand-stays l (sound l s) 7 s (record {}) _ t (λ e7. reset-stays l s t))
 
 -- any list of calls
-pub history-stays : (l : Limits) (cs : List Call) (w : World) → Stays l (w .state) → Stays l (history l cs w .state)
+pub history-stays : (l : Limits) → l .pairs ≤ listEnd → (cs : List Call) (w : World) → Stays l (w .state) → Stays l (history l cs w .state)
 unfolding history
-history-stays l [] w t = t
-history-stays l (c ∷ cs) w t = history-stays l cs (turnWorld l c w) (call-stays l c (w .state) t)
+history-stays l small [] w t = t
+history-stays l small (c ∷ cs) w t = history-stays l small cs (turnWorld l c w) (call-stays l small c (w .state) t)
 
 -- a new graph is sound
 pub new-stays : (l : Limits) (s : State) → s .nodes ≡ 0 → s .edges ≡ 0 → s .stage ≡ 0 → roomy l s ≡ true → Stays l s
+unfolding usedPlaces
 new-stays l s n e z r = record {
   room = is-roomy l s r;
   sense = record {
@@ -100,6 +104,7 @@ new-stays l s n e z r = record {
     twins = λ k q. absurd (omega arith);
     stars = λ h q. absurd (omega arith);
     coordinates = λ m q. absurd (omega arith);
+    lists = record { each = λ k q. absurd (omega arith); apart = subst (λ m. Distinct (usedPlaces (l .pairs) (s .tracings) m)) (sym e) (λ x. omega arith) };
     new = λ h. record { unmarked = λ m q. absurd (omega arith); degrees = λ m q. absurd (omega arith); halves = λ h q. absurd (omega arith) };
   };
 }
@@ -208,29 +213,29 @@ tracing l s t z dangles edges rings a b c =
     record { sorts = w₁ .goes; prunes = w₂ .goes; cuts = w₃ .goes; extracts = w₄ .goes }
 
 -- from tables that are long enough and sound it goes on
-stays-going : (l : Limits) (s : State) → Stays l s → Going l s
-stays-going l s t =
+stays-going : (l : Limits) → l .pairs ≤ listEnd → (s : State) → Stays l s → Going l s
+stays-going l small s t =
     let h = stays-held l s t in
     record {
       held = h;
-      keeps = λ c. stays-held l (call l c s .state) (call-stays l c s t);
+      keeps = λ c. stays-held l (call l c s .state) (call-stays l small c s t);
       spared = call-spared l s h;
       resets = reset-goes l s h;
       traces = tracing l s t;
     }
 
 -- for every such state
-pub sound-goes : (l : Limits) → SoundGoes l
+pub sound-goes : (l : Limits) → l .pairs ≤ listEnd → SoundGoes l
 unfolding SoundGoes
-sound-goes l s h = stays-going l s (held-stays l s h)
+sound-goes l small s h = stays-going l small s (held-stays l s h)
 
 -- NO TRACING STOPS A CONSULTATION: after every list of calls from a new graph
-pub no-tracing-stops : (l : Limits) → NoTracingStops l
+pub no-tracing-stops : (l : Limits) → l .pairs ≤ listEnd → NoTracingStops l
 unfolding NoTracingStops
-no-tracing-stops l s n e z r calls =
-    stays-going l (history l calls (record { state = s; sketch = emptySketch }) .state)
-    (history-stays l calls (record { state = s; sketch = emptySketch }) (new-stays l s n e z r))
+no-tracing-stops l small s n e z r calls =
+    stays-going l small (history l calls (record { state = s; sketch = emptySketch }) .state)
+    (history-stays l small calls (record { state = s; sketch = emptySketch }) (new-stays l s n e z r))
 
 -- on this library's limits
 pub demand-1 : NoTracingStops limits
-demand-1 = no-tracing-stops limits
+demand-1 = no-tracing-stops limits (omega arith)

@@ -1,21 +1,20 @@
 -- Every call keeps the tables following the sketch, so every list of calls does; with it demand 3.
-use Prim.Native.Nat.{ℕ, _+_, _*_, _^_, _≤_}
+use Prim.Native.Nat.{ℕ, _*_, _^_, _≤_}
 use native.Mathlib.Omega.{arith}
 use mathlib.Core.Path.{_≡_, refl, sym, ap, _∙_}
-use mathlib.Core.Bool.{Bool, true, false, cond, not, _&&_}
+use mathlib.Core.Bool.{Bool, false}
 use mathlib.Core.List.{List, [], _∷_, map}
-use lib.Dec.{eqb, ltb, leb}
+use lib.Dec.{eqb, leb}
 use lib.ListN.{length}
-use borrow.Author.Tests.{eqb-true, not-true}
+use borrow.Author.Tests.{eqb-true}
 use Rattle.lists.specs.Lists.{upto, flatten, over}
-use Rattle.lists.proofs.Tests.{both}
-use Rattle.rules.specs.Keys.{keyOf}
-use Rattle.rotation.specs.Rotation.{keySame}
+use Rattle.geometry.specs.Reply.{refused}
+use Rattle.rules.specs.HalfEdge.{edgeOf}
 use Rattle.rules.specs.Limits.{Limits, Fine, limits}
+use Rattle.rules.specs.LineIds.{lowestFree}
 use Rattle.rules.specs.State.{State, pointOf, roomy, sound}
 use Rattle.geometry.specs.declared.Line3D.{Line3D}
-use Rattle.rules.specs.Adding.{Outcome, findHalf, Nothing, add}
-use Rattle.geometry.specs.Angle.{planar}
+use Rattle.rules.specs.Adding.{Outcome, Added, Nothing, add}
 use Rattle.rules.specs.Stages.{step, next, sortedStar, sort, pruneStep, cutStep, reset}
 use Rattle.rules.specs.Ringing.{RingLists, longEnough, ringStep}
 use Rattle.rules.specs.Sketch.{Sketch, pointAt, Call, adding, sorting, pruning, cutting, ringing, resetting, withLine, sketchAdd, sketchPrune, sketchCut, sketchReset, feed}
@@ -29,13 +28,9 @@ use Rattle.rules.proofs.FollowingPrune.{tracks-prune}
 use Rattle.rules.proofs.Sorting.{star-sorted}
 use Rattle.rules.proofs.Joining.{half-joins}
 use Rattle.rules.proofs.Simple.{Simple, sorted-star-sketch}
-use Rattle.rules.proofs.Additions.{Fits, demand-fits, u, v, nu, nv, k₂, sketch-is, old-sketch, new-simple, new-tracks}
+use Rattle.rules.proofs.AddCases.{u, v, half, used, known, add-cases}
+use Rattle.rules.proofs.Additions.{Fits, demand-fits, tracks-id, k₂, sketch-is, old-sketch, new-simple, new-tracks}
 use Rattle.rules.proofs.Areas.{exact-areas, small-areas}
-
--- either way of a test
-cond-fits : {A L : Type 0} (c : Call) (k : Sketch) (b : Bool) (x y : Outcome A L) → (b ≡ true → Fits c k x) → (b ≡ false → Fits c k y) → Fits c k (cond b x y)
-cond-fits c k true x y p q = p refl
-cond-fits c k false x y p q = q refl
 
 -- ---- adding
 
@@ -44,39 +39,30 @@ fed-added : (g : Line3D) (k : Sketch) → feed false (adding g) k ≡ sketchAdd 
 unfolding feed
 fed-added g k = refl
 
+-- a refused one is not
+refused-fits : (g : Line3D) (k : Sketch) (n : ℕ) (s : State) → Tracks s k → Simple k → Fits {A = Added} {L = Nothing} (adding g) k (record { reply = refused n; state = s; lists = record {} })
+unfolding feed
+refused-fits g k n s t simple = record { tracks = t; simple = simple }
+
 -- adding keeps both together
 add-fits : (l : Limits) (g : Line3D) (s : State) (k : Sketch) → l .bound ≤ 2 ^ 53 → Given64 g → Good k → Simple k → Tracks s k → Fits (adding g) k (add l g s)
-unfolding add
-add-fits l g s k fine real good simple t =
-    let none : Nothing = record {} in
-    let c = adding g in
-    demand-fits c k (roomy l s) 6 s none _ t simple (λ e6.
-    demand-fits c k (sound l s) 7 s none _ t simple (λ e7.
-    demand-fits c k (eqb (s .stage) 0) 5 s none _ t simple (λ e5.
-    demand-fits c k (planar (l .bound) (g .start) && planar (l .bound) (g .end)) 1 s none _ t simple (λ e1.
-    demand-fits c k (not (keySame (keyOf (g .start .x) (g .start .y)) (keyOf (g .end .x) (g .end .y)))) 2 s none _ t simple (λ e2.
-    let room = is-roomy l s e6 in
-    let ok = is-sound l s e7 in
-    let young : s .stage ≡ 0 = eqb-true (s .stage) 0 e5 in
-    let wp = both (planar (l .bound) (g .start)) (planar (l .bound) (g .end)) e1 .0 in
-    let wq = both (planar (l .bound) (g .start)) (planar (l .bound) (g .end)) e1 .1 in
-    let differ = not-true (keySame (keyOf (g .start .x) (g .start .y)) (keyOf (g .end .x) (g .end .y))) e2 in
-    let a = u g s in
-    let b = v g s in
-    let j = half-joins l s ok k t a b in
-    cond-fits c k (ltb (findHalf s a b) (2 * s .edges)) _ _
-    (λ h.
-    let same = fed-added g k ∙ old-sketch g s l k fine real good simple t room ok young wp wq differ (sym j ∙ h) in
-    record { tracks = rw same t; simple = rw same simple })
-    (λ h.
-    let none-joins = sym j ∙ h in
-    let same = fed-added g k ∙ sketch-is g s l k fine real good simple t room ok young wp wq differ ∙ ap (λ z. withLine z a b (k₂ g s l k fine real good simple t room ok young wp wq differ)) none-joins in
-    demand-fits c k (leb (s .nodes + (cond (nu g s) 1 0 + cond (nv g s) 1 0)) (l .nodes)) 3 s none _ t simple (λ e3.
-    demand-fits c k (ltb (s .edges) (l .edges)) 4 s none _ t simple (λ e4.
+add-fits l g s k fine real good simple t = add-cases l g s (Fits (adding g) k)
+    (λ n z. refused-fits g k n s t simple)
+    (λ f.
+    let d = f .tested in
+    let j = half-joins l s (d .ok) k t (u g s) (v g s) in
+    let same = fed-added g k ∙ old-sketch g s l k fine real good simple t d (sym j ∙ f .there) in
+    record { tracks = rw same (tracks-id (known l g s) (l .pairs) (edgeOf (half g s)) (g .«line_id») (lowestFree (used l g s)) s k t); simple = rw same simple })
+    (λ f.
+    let d = f .tested in
+    let none-joins = sym (half-joins l s (d .ok) k t (u g s) (v g s)) ∙ f .missing in
+    let sketch = k₂ g s l k fine real good simple t d in
+    let same = fed-added g k ∙ sketch-is g s l k fine real good simple t d
+    ∙ ap (λ z. withLine z (u g s) (v g s) sketch) none-joins in
     record {
-      tracks = rw same (new-tracks g s l k fine real good simple t room ok young wp wq differ e3 e4);
-      simple = rw same (new-simple g s l k fine real good simple t room ok young wp wq differ none-joins);
-    }))))))))
+      tracks = rw same (new-tracks g s l k fine real good simple t d f (lowestFree (used l g s)));
+      simple = rw same (new-simple g s l k fine real good simple t d none-joins);
+    })
 
 -- ---- the stage steps
 

@@ -20,7 +20,9 @@ pub mod Rings
 pub mod Counting
 pub mod Agreement
 -- states, replies, sketches, and what the two claims come from
+pub mod ListSoundness
 pub mod Soundness
+pub mod AddCases
 pub mod Tables
 pub mod Replies
 pub mod NamingSteps
@@ -36,6 +38,7 @@ pub mod FollowingPrune
 pub mod Sorting
 pub mod Simple
 pub mod Finding
+pub mod TwoEntries
 pub mod Growing
 pub mod Joining
 pub mod Additions
@@ -64,8 +67,17 @@ pub mod CountsAgree
 pub mod EulerFormulas
 pub mod Orders
 pub mod PieceNumbers
--- a state stays sound through an addition
+-- facts back into tests
 pub mod Sounding
+-- the ids behind each edge
+pub mod PlaceChains
+pub mod Listed
+pub mod Entering
+pub mod KeepingLists
+pub mod FreePlaces
+-- a state stays sound through an addition
+pub mod NodeSound
+pub mod EdgeSound
 pub mod AddingSound
 -- every call keeps the tables long enough and sound
 pub mod Staying
@@ -75,3 +87,12 @@ pub mod Going
 pub mod Filing
 pub mod FileFloats
 pub mod FileTests
+-- the ids of each edge after a list of calls
+pub mod Refused
+pub mod TracedAdding
+pub mod TracedCalls
+pub mod FullTable
+-- what loops over the lists of ids need
+pub mod IdLoops
+pub mod PairsTaken
+pub mod ListTest

@@ -7,15 +7,12 @@ use lib.ListN.{length, getD, take}
 use borrow.Author.Tests.{eqb-true, eqb-false, ltb-true, leb-true, not-true, le-ltb}
 use Rattle.lists.specs.Lists.{upto, all, countOf}
 use Rattle.rules.specs.Limits.{Limits}
-use Rattle.rules.specs.State.{State, starOf, roomy, sound, soundEnds, soundTwins, soundStar, soundCoordinates, fresh}
+use Rattle.rules.specs.State.{State, starOf, roomy, sound, soundGraph, soundEnds, soundTwins, soundStar, soundCoordinates, fresh}
 use Rattle.lists.proofs.Counts.{true-is-false}
 use Rattle.lists.proofs.Members.{all-below}
-use Rattle.lists.proofs.Tests.{both}
-
--- a part without which the whole fails
-part : (x whole : Bool) → whole ≡ true → (x ≡ false → whole ≡ false) → x ≡ true
-part true whole e h = refl
-part false whole e h = absurd (true-is-false (sym e ∙ h refl))
+use Rattle.lists.proofs.Tests.{both, part}
+use Rattle.rules.specs.LineIds.{soundLists}
+use Rattle.rules.proofs.ListSoundness.{SoundLists, sound-lists}
 
 -- number 6
 pub record Roomy (l : Limits) (s : State) : Type 0 where
@@ -30,6 +27,9 @@ pub record Roomy (l : Limits) (s : State) : Type 0 where
   pub target : 2 * l .edges ≤ length (s .target)
   pub halfMark : 2 * l .edges ≤ length (s .halfMark)
   pub star : 2 * l .edges ≤ length (s .star)
+  pub place : l .edges ≤ length (s .tracings .place)
+  pub id : l .pairs ≤ length (s .tracings .id)
+  pub next : l .pairs ≤ length (s .tracings .next)
 
 -- the test of number 6 says all of these
 pub is-roomy : (l : Limits) (s : State) → roomy l s ≡ true → Roomy l s
@@ -46,6 +46,9 @@ is-roomy l s e = record {
   target = leb-true _ _ (part _ _ e (λ f. rw f (simp and-false)));
   halfMark = leb-true _ _ (part _ _ e (λ f. rw f (simp and-false)));
   star = leb-true _ _ (part _ _ e (λ f. rw f (simp and-false)));
+  place = leb-true _ _ (part _ _ e (λ f. rw f (simp and-false)));
+  id = leb-true _ _ (part _ _ e (λ f. rw f (simp and-false)));
+  next = leb-true _ _ (part _ _ e (λ f. rw f (simp and-false)));
 }
 
 -- number 7, for edge k: its half-edges swap two different nodes below the node count
@@ -122,19 +125,26 @@ pub record Sound (l : Limits) (s : State) : Type 0 where
   pub twins : (k : ℕ) → k < s .edges → getD (s .halfMark) (2 * k) true ≡ getD (s .halfMark) (2 * k + 1) true
   pub stars : (h : ℕ) → h < 2 * s .edges → countOf h (take (2 * s .edges) (s .star)) ≡ 1
   pub coordinates : (n : ℕ) → n < s .nodes → soundCoordinates l s n ≡ true
+  pub lists : SoundLists (l .pairs) (s .tracings) (s .lineId) (s .edges)
   pub new : s .stage ≤ 1 → Fresh s
 
 -- the tests as one list, shut
-sound-is : (l : Limits) (s : State) → sound l s ≡ (leb (s .nodes) (l .nodes) && (leb (s .edges) (l .edges) && (leb (s .stage) 4
+graph-is : (l : Limits) (s : State) → soundGraph l s ≡ (leb (s .nodes) (l .nodes) && (leb (s .edges) (l .edges) && (leb (s .stage) 4
     && (all (soundEnds s) (upto (s .edges)) && (all (soundTwins s) (upto (s .edges)) && (all (soundStar s) (upto (2 * s .edges))
     && (all (soundCoordinates l s) (upto (s .nodes)) && (ltb 1 (s .stage) || fresh s))))))))
+unfolding soundGraph
+graph-is l s = refl
+
+-- document 01's list and the lists of line ids
+sound-both : (l : Limits) (s : State) → sound l s ≡ true → (soundGraph l s ≡ true) × (soundLists (l .pairs) (s .tracings) (s .lineId) (s .edges) ≡ true)
 unfolding sound
-sound-is l s = refl
+sound-both l s e = both (soundGraph l s) (soundLists (l .pairs) (s .tracings) (s .lineId) (s .edges)) e
 
 -- the test of number 7 says all of these
 pub is-sound : (l : Limits) (s : State) → sound l s ≡ true → Sound l s
 is-sound l s e =
-    let t = sym (sound-is l s) ∙ e in
+    let parts = sound-both l s e in
+    let t = sym (graph-is l s) ∙ parts .0 in
     record {
       nodes = leb-true _ _ (part _ _ t (λ f. rw f));
       edges = leb-true _ _ (part _ _ t (λ f. rw f (simp and-false)));
@@ -143,5 +153,6 @@ is-sound l s e =
       twins = λ k h. sound-twins s k (all-below (soundTwins s) (s .edges) (part _ _ t (λ f. rw f (simp and-false))) k h);
       stars = λ h q. sound-star s h (all-below (soundStar s) (2 * s .edges) (part _ _ t (λ f. rw f (simp and-false))) h q);
       coordinates = λ n h. all-below (soundCoordinates l s) (s .nodes) (part _ _ t (λ f. rw f (simp and-false))) n h;
+      lists = sound-lists (l .pairs) (s .tracings) (s .lineId) (s .edges) (parts .1);
       new = λ h. is-fresh s (or-left _ _ (part (ltb 1 (s .stage) || fresh s) _ t (λ f. rw f (simp and-false))) (le-ltb 1 (s .stage) h));
     }

@@ -2,7 +2,7 @@
 use Prim.Native.Nat.{ℕ, _+_, _*_}
 use native.Mathlib.Omega.{arith}
 use mathlib.Core.Path.{_≡_, refl, sym}
-use mathlib.Core.Bool.{Bool, true, false, cond, _&&_, not}
+use mathlib.Core.Bool.{Bool, true, false, cond, _&&_, _||_, not}
 use lib.Dec.{eqb, ltb, leb}
 use lib.ListN.{length}
 use Rattle.geometry.specs.Angle.{planar}
@@ -11,14 +11,15 @@ use Rattle.geometry.specs.declared.Line3D.{Line3D}
 use Rattle.rotation.specs.Rotation.{keySame}
 use Rattle.rules.specs.Keys.{keyOf}
 use Rattle.rules.specs.Limits.{Limits}
+use Rattle.rules.specs.LineIds.{lowestFree}
 use Rattle.rules.specs.State.{State, roomy, sound}
-use Rattle.rules.specs.Adding.{Outcome, demand, findHalf, Nothing, add}
+use Rattle.rules.specs.Adding.{Outcome, demand, Nothing, add}
 use Rattle.rules.specs.Stages.{step, sort, pruneStep, cutStep, reset}
 use Rattle.rules.specs.Ringing.{RingLists, longEnough, ringed, ringStep}
 use Rattle.rules.specs.Sketch.{Call, adding, sorting, pruning, cutting, ringing, resetting}
 use Rattle.rules.specs.Going.{Held, Spared, SparedCall}
 use Rattle.lists.proofs.Counts.{true-is-false}
-use Rattle.rules.proofs.Additions.{u, v, nu, nv}
+use Rattle.rules.proofs.AddCases.{nu, nv, half, used, known}
 
 -- a success is
 pub success-spared : {A L : Type 0} (o : Outcome A L) (a : A) → o .reply ≡ success a → Spared o
@@ -62,13 +63,15 @@ add-spared : (l : Limits) (g : Line3D) (s : State) → Held l s → Spared (add 
 unfolding add
 add-spared l g s h =
     let none : Nothing = record {} in
+    let some = ltb (lowestFree (used l g s)) (l .pairs) in
     step-spared l 0 s none _ h
     (other-spared (planar (l .bound) (g .start) && planar (l .bound) (g .end)) 1 s none _ (λ e. omega arith) (λ e. omega arith)
     (other-spared (not (keySame (keyOf (g .start .x) (g .start .y)) (keyOf (g .end .x) (g .end .y)))) 2 s none _ (λ e. omega arith) (λ e. omega arith)
-    (cond-spared (ltb (findHalf s (u g s) (v g s)) (2 * s .edges)) _ _
-    (success-spared _ _ refl)
+    (cond-spared (ltb (half g s) (2 * s .edges)) _ _
+    (other-spared (known l g s || some) 12 s none _ (λ e. omega arith) (λ e. omega arith) (success-spared _ _ refl))
     (other-spared (leb (s .nodes + (cond (nu g s) 1 0 + cond (nv g s) 1 0)) (l .nodes)) 3 s none _ (λ e. omega arith) (λ e. omega arith)
-    (other-spared (ltb (s .edges) (l .edges)) 4 s none _ (λ e. omega arith) (λ e. omega arith) (success-spared _ _ refl))))))
+    (other-spared (ltb (s .edges) (l .edges)) 4 s none _ (λ e. omega arith) (λ e. omega arith)
+    (other-spared some 12 s none _ (λ e. omega arith) (λ e. omega arith) (success-spared _ _ refl)))))))
 
 -- what ring extraction gives
 ringed-spared : (s : State) (out : RingLists) → Spared (ringed s out)

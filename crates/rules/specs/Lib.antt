@@ -1,4 +1,4 @@
--- The rules of document 01 as definitions. Read in this order.
+-- The rules of document 01, and of the requests of document 02 that have landed, as definitions. Read in this order.
 pub mod Limits
 pub mod HalfEdge
 pub mod Keys
@@ -15,6 +15,7 @@ pub mod Paths
 pub mod EulerFormula
 pub mod Face
 pub mod Naming
+pub mod LineIds
 pub mod State
 pub mod Pieces
 pub mod Adding
@@ -28,4 +29,6 @@ pub mod Sketch
 pub mod Claim
 pub mod Going
 pub mod Filing
+pub mod Traced
 pub mod Worked
+pub mod WorkedIds

@@ -34,6 +34,7 @@ created s = record {
   target = s .target;
   halfMark = s .halfMark;
   star = s .star;
+  tracings = s .tracings;
 }
 
 -- creating tests 6
@@ -60,6 +61,7 @@ next s stage degree nodeMark halfMark star = record {
   target = s .target;
   halfMark = halfMark;
   star = star;
+  tracings = s .tracings;
 }
 
 -- what a stage step tests first: 6, 7, then that its stage is the one before

@@ -12,6 +12,7 @@ use Rattle.rules.specs.Keys.{keyOf}
 use Rattle.geometry.specs.Angle.{Point}
 use Rattle.rules.specs.Cycles.{Arrangement}
 use Rattle.rules.specs.Limits.{Limits}
+use Rattle.rules.specs.LineIds.{Tracings, soundLists}
 
 -- the three numbers and the tables
 pub record State : Type 0 where
@@ -34,6 +35,8 @@ pub record State : Type 0 where
   pub halfMark : List Bool
   -- every half-edge once: a node's star is what of it starts at the node, in this order
   pub star : List ℕ
+  -- the ids of the additions that made or found each edge
+  pub tracings : Tracings
 
 -- ---- reading a state
 
@@ -93,7 +96,9 @@ roomy l s =
     && (leb (2 * l .edges) (length (s .source))
     && (leb (2 * l .edges) (length (s .target))
     && (leb (2 * l .edges) (length (s .halfMark))
-    && leb (2 * l .edges) (length (s .star)))))))))))
+    && (leb (2 * l .edges) (length (s .star))
+    && (leb (l .edges) (length (s .tracings .place))
+    && (leb (l .pairs) (length (s .tracings .id)) && leb (l .pairs) (length (s .tracings .next))))))))))))))
 
 -- ---- number 7: the soundness list
 
@@ -128,10 +133,10 @@ fresh s =
     all (λ n. not (getD (s .nodeMark) n true) && eqb (getD (s .degree) n 0) (length (starOf s n))) (upto (s .nodes))
     && all (λ h. not (getD (s .halfMark) h true)) (upto (2 * s .edges))
 
--- the test of number 7
-unfoldable pub sound : Limits → State → Bool
+-- document 01's list
+unfoldable pub soundGraph : Limits → State → Bool
 unfolding soundEnds soundTwins soundStar soundCoordinates fresh
-sound l s =
+soundGraph l s =
     leb (s .nodes) (l .nodes)
     && (leb (s .edges) (l .edges)
     && (leb (s .stage) 4
@@ -140,3 +145,8 @@ sound l s =
     && (all (soundStar s) (upto (2 * s .edges))
     && (all (soundCoordinates l s) (upto (s .nodes))
     && (ltb 1 (s .stage) || fresh s)))))))
+
+-- the test of number 7: that list, and the lists of line ids
+unfoldable pub sound : Limits → State → Bool
+unfolding soundGraph soundLists
+sound l s = soundGraph l s && soundLists (l .pairs) (s .tracings) (s .lineId) (s .edges)

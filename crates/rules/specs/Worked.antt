@@ -10,7 +10,7 @@ use lib.Ieee.{Float, nan, fin, binary64, ofInt, toBits}
 use Rattle.lists.specs.Lists.{flatten}
 use Rattle.rotation.specs.Rotation.{Key, leastRotation}
 use Rattle.rules.specs.Euler.{Census}
-use Rattle.rules.specs.Limits.{limits}
+use Rattle.rules.specs.Limits.{Limits, limits}
 use Rattle.rules.specs.State.{State}
 use Rattle.geometry.specs.declared.Coord3D.{Coord3D}
 use Rattle.geometry.specs.declared.Line3D.{Line3D}
@@ -22,24 +22,29 @@ use Rattle.rules.specs.Decimal.{ascii, decimal}
 use Rattle.rules.specs.Lines.{headLine, ringLine}
 use Rattle.rules.specs.Listing.{listing}
 
--- a newly created graph over tables that hold anything
-abbrev empty : State
-empty = record {
+-- a newly created graph over tables that are just long enough and hold anything
+abbrev pub emptyFor : Limits → State
+emptyFor l = record {
   nodes = 0;
   edges = 0;
   stage = 0;
-  nodeX = replicate (limits .nodes) nan;
-  nodeY = replicate (limits .nodes) nan;
-  nodeZ = replicate (limits .nodes) nan;
-  degree = replicate (limits .nodes) 7;
-  nodeMark = replicate (limits .nodes) true;
-  segment = replicate (6 * limits .edges) nan;
-  lineId = replicate (limits .edges) 7;
-  source = replicate (2 * limits .edges) 7;
-  target = replicate (2 * limits .edges) 7;
-  halfMark = replicate (2 * limits .edges) true;
-  star = replicate (2 * limits .edges) 7;
+  nodeX = replicate (l .nodes) nan;
+  nodeY = replicate (l .nodes) nan;
+  nodeZ = replicate (l .nodes) nan;
+  degree = replicate (l .nodes) 7;
+  nodeMark = replicate (l .nodes) true;
+  segment = replicate (6 * l .edges) nan;
+  lineId = replicate (l .edges) 7;
+  source = replicate (2 * l .edges) 7;
+  target = replicate (2 * l .edges) 7;
+  halfMark = replicate (2 * l .edges) true;
+  star = replicate (2 * l .edges) 7;
+  tracings = record { place = replicate (l .edges) 7; id = replicate (l .pairs) 7; next = replicate (l .pairs) 7 };
 }
+
+-- one with this library's limits
+abbrev empty : State
+empty = emptyFor limits
 
 -- result lists that hold anything
 abbrev lists : RingLists
@@ -53,7 +58,7 @@ lists = record {
 }
 
 -- the point (x, y), z 0
-abbrev at : ℤ → ℤ → Coord3D
+abbrev pub at : ℤ → ℤ → Coord3D
 at x y = record { x = ofInt binary64 x; y = ofInt binary64 y; z = fin false 0 (pos 0) }
 
 -- the segment from (a, b) to (c, d)
@@ -61,7 +66,7 @@ abbrev line : ℤ → ℤ → ℤ → ℤ → Line3D
 line a b c d = record { start = at a b; end = at c d; «line_id» = 1 }
 
 -- a reply as whole numbers: -1 and the number of a refusal, or the values of the success
-abbrev showAdded : Reply Added → List ℤ
+abbrev pub showAdded : Reply Added → List ℤ
 showAdded (refused n) = negsuc 0 ∷ pos n ∷ []
 showAdded (success a) = pos (a .edge) ∷ pos (cond (a .new) 1 0) ∷ []
 
@@ -188,7 +193,7 @@ pub record Row : Type 0 where
   pub expected : List ℤ
 
 -- a row
-abbrev row : List ℤ → List ℤ → Row
+abbrev pub row : List ℤ → List ℤ → Row
 row g e = record { given = g; expected = e }
 
 -- P1 to P10
@@ -246,7 +251,7 @@ sameList (x ∷ xs) [] = false
 sameList (x ∷ xs) (y ∷ ys) = sameZ x y && sameList xs ys
 
 -- row by row
-abbrev holds : List Row → List Bool
+abbrev pub holds : List Row → List Bool
 holds [] = []
 holds (r ∷ rs) = sameList (r .given) (r .expected) ∷ holds rs
 

@@ -7,6 +7,7 @@ ghost use Rattle.tables.specs.Regions.{xsIn, ysIn, sourcesIn, targetsIn, starTa
 ghost use Rattle.tables.specs.Tables.{atStage};
 ghost use Rattle.stars.specs.Sorted.{Sortable, sortedTable};
 use tables::DEGREES;
+use tables::LIST_PLACES;
 use tables::NODES_Y;
 use tables::NODES_Z;
 use tables::PlanarGraph;
@@ -30,7 +31,7 @@ pub fn sort_region(
         &floats[0..NODES_Y],
         &floats[NODES_Y..NODES_Z],
         &numbers[0..TARGETS],
-        &numbers[TARGETS..],
+        &numbers[TARGETS..LIST_PLACES],
         &mut stars[0..DEGREES],
     )
 }

@@ -35,10 +35,10 @@ module _ (l : Limits) (g : PlanarGraph) (floats : List Float) (numbers stars : L
   tables-fit : Roomy l held → SliceRoom l floats numbers stars marks ids
   tables-fit r = record {
     floatRoom = omega (arith, r .nodeZ, r .segment, length-take (l .nodes) (drop (2 * l .nodes) floats), length-drop (2 * l .nodes) floats, length-drop (3 * l .nodes) floats);
-    numberRoom = omega (arith, r .source, r .target, length-take (2 * l .edges) numbers, length-drop (2 * l .edges) numbers);
+    numberRoom = omega (arith, r .place, r .next, length-take (l .edges) (drop (4 * l .edges) numbers), length-drop (4 * l .edges) numbers, length-drop (5 * l .edges) numbers);
     starRoom = omega (arith, r .degree, r .star, length-take (2 * l .edges) stars, length-drop (2 * l .edges) stars);
     markRoom = omega (arith, r .nodeMark, r .halfMark, length-take (l .nodes) marks, length-drop (l .nodes) marks);
-    idRoom = r .lineId;
+    idRoom = omega (arith, r .lineId, r .id, length-take (l .edges) ids, length-drop (l .edges) ids);
   }
 
   -- and the other way round
@@ -50,11 +50,14 @@ module _ (l : Limits) (g : PlanarGraph) (floats : List Float) (numbers stars : L
     degree = omega (arith, r .starRoom, length-drop (2 * l .edges) stars);
     nodeMark = omega (arith, r .markRoom, length-take (l .nodes) marks);
     segment = omega (arith, r .floatRoom, length-drop (3 * l .nodes) floats);
-    lineId = r .idRoom;
+    lineId = omega (arith, r .idRoom, length-take (l .edges) ids);
     source = omega (arith, r .numberRoom, length-take (2 * l .edges) numbers);
-    target = omega (arith, r .numberRoom, length-drop (2 * l .edges) numbers);
+    target = omega (arith, r .numberRoom, length-take (2 * l .edges) (drop (2 * l .edges) numbers), length-drop (2 * l .edges) numbers);
     halfMark = omega (arith, r .markRoom, length-drop (l .nodes) marks);
     star = omega (arith, r .starRoom, length-take (2 * l .edges) stars);
+    place = omega (arith, r .numberRoom, length-take (l .edges) (drop (4 * l .edges) numbers), length-drop (4 * l .edges) numbers);
+    id = omega (arith, r .idRoom, length-drop (l .edges) ids);
+    next = omega (arith, r .numberRoom, length-drop (5 * l .edges) numbers);
   }
 
   -- where number 6 passes, the slices have room

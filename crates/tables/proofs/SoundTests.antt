@@ -11,7 +11,7 @@ use Rattle.lists.specs.Lists.{upto, all, countOf}
 use Rattle.lists.proofs.Members.{all-below}
 use Rattle.lists.proofs.Tests.{both}
 use Rattle.rules.specs.Limits.{Limits}
-use Rattle.rules.specs.State.{State, starOf, sound, soundEnds, soundTwins, soundStar, soundCoordinates, fresh}
+use Rattle.rules.specs.State.{State, starOf, soundGraph, soundEnds, soundTwins, soundStar, soundCoordinates, fresh}
 use Rattle.rules.proofs.Soundness.{SoundEnds, sound-ends}
 use Rattle.rules.proofs.Twin.{by-halves}
 use Rattle.tables.specs.Tests.{countsWithin, endsSwap, twinsAlike, standsOnce, liesWhole, listedTables, startsAt, unmarked, nodeFresh, freshTables}
@@ -34,8 +34,8 @@ abbrev pub counted : Limits → State → Bool
 counted l s = countsWithin l (s .nodes) (s .edges) (s .stage)
 
 -- the soundness list in the order in which the code tests it
-pub sound-is : (l : Limits) (s : State) → sound l s ≡ (counted l s && (listed l s && (ltb 1 (s .stage) || fresh s)))
-unfolding sound soundEnds soundTwins soundStar soundCoordinates
+pub sound-is : (l : Limits) (s : State) → soundGraph l s ≡ (counted l s && (listed l s && (ltb 1 (s .stage) || fresh s)))
+unfolding soundGraph soundEnds soundTwins soundStar soundCoordinates
 sound-is l s = regroup
     (leb (s .nodes) (l .nodes))
     (leb (s .edges) (l .edges))
@@ -89,20 +89,20 @@ fresh-is s once =
 
 module _ (l : Limits) (s : State) where
   -- the counts are too large
-  pub unsound-counts : counted l s ≡ false → false ≡ sound l s
+  pub unsound-counts : counted l s ≡ false → false ≡ soundGraph l s
   unsound-counts a = sym (sound-is l s ∙ ap (λ b. b && (listed l s && (ltb 1 (s .stage) || fresh s))) a)
 
   -- a test of every state fails
-  pub unsound-tables : counted l s ≡ true → listed l s ≡ false → false ≡ sound l s
+  pub unsound-tables : counted l s ≡ true → listed l s ≡ false → false ≡ soundGraph l s
   unsound-tables a b = sym (sound-is l s ∙ (λ i. a i && (b i && (ltb 1 (s .stage) || fresh s))))
 
   -- from stage 2 on nothing else is asked
-  pub sound-later : counted l s ≡ true → listed l s ≡ true → 1 < s .stage → true ≡ sound l s
+  pub sound-later : counted l s ≡ true → listed l s ≡ true → 1 < s .stage → true ≡ soundGraph l s
   sound-later a b c = sym (sound-is l s ∙ (λ i. a i && (b i && (lt-ltb 1 (s .stage) c i || fresh s))))
 
   -- before it nothing is marked and degrees are star lengths
   pub sound-early : counted l s ≡ true → listed l s ≡ true → s .stage ≤ 1
-      → freshTables (s .nodes) (2 * s .edges) (s .degree) (s .nodeMark) (s .source) (s .halfMark) ≡ sound l s
+      → freshTables (s .nodes) (2 * s .edges) (s .degree) (s .nodeMark) (s .source) (s .halfMark) ≡ soundGraph l s
   sound-early a b c = sym (fresh-is s (listed-once l s b)) ∙ sym (sound-is l s ∙ (λ i. a i && (b i && (le-ltb 1 (s .stage) c i || fresh s))))
 
 -- ---- what the calls answer, put together

@@ -1,7 +1,7 @@
--- Document 01's number of each refusal.
+-- The documents' number of each refusal.
 use Prim.Native.Nat.{ℕ}
 use Rattle.tables.specs.declared.Refusal.{Refusal}
-use Rattle.tables.specs.declared.Refusal.the-variants.{NotWhole, SameNode, TooManyNodes, TooManyEdges, WrongStage, TableTooShort, Unsound, ListTooShort}
+use Rattle.tables.specs.declared.Refusal.the-variants.{NotWhole, SameNode, TooManyNodes, TooManyEdges, WrongStage, TableTooShort, Unsound, ListTooShort, TooManyPairs}
 
 abbrev pub refusalNumber : Refusal → ℕ
 refusalNumber NotWhole = 1
@@ -12,3 +12,4 @@ refusalNumber WrongStage = 5
 refusalNumber TableTooShort = 6
 refusalNumber Unsound = 7
 refusalNumber ListTooShort = 8
+refusalNumber TooManyPairs = 12

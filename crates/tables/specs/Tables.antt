@@ -1,14 +1,15 @@
--- The small state and the eleven lent tables as the state of the rules.
+-- The small state and the lent tables as the state of the rules.
 use Prim.Native.Nat.{ℕ}
 use mathlib.Core.Bool.{Bool}
 use mathlib.Core.List.{List}
 use lib.Ieee.{Float}
+use Rattle.rules.specs.LineIds.{Tracings}
 use Rattle.rules.specs.State.{State}
 use Rattle.tables.specs.declared.PlanarGraph.{PlanarGraph}
 
 -- the tables in the order in which every entry takes them
-abbrev pub stateOf : PlanarGraph → List Float → List Float → List Float → List ℕ → List Bool → List Float → List ℕ → List ℕ → List ℕ → List Bool → List ℕ → State
-stateOf g nodesX nodesY nodesZ nodesDegree nodesMarked edgesLine edgesLineId dirEdgesSrc dirEdgesDst dirEdgesMarked nodesOutgoing = record {
+abbrev pub stateOf : PlanarGraph → List Float → List Float → List Float → List ℕ → List Bool → List Float → List ℕ → List ℕ → List ℕ → List Bool → List ℕ → Tracings → State
+stateOf g nodesX nodesY nodesZ nodesDegree nodesMarked edgesLine edgesLineId dirEdgesSrc dirEdgesDst dirEdgesMarked nodesOutgoing tracings = record {
   nodes = g .«node_count»;
   edges = g .«edge_count»;
   stage = g .stage;
@@ -23,6 +24,7 @@ stateOf g nodesX nodesY nodesZ nodesDegree nodesMarked edgesLine edgesLineId dir
   target = dirEdgesDst;
   halfMark = dirEdgesMarked;
   star = nodesOutgoing;
+  tracings = tracings;
 }
 
 -- the same counts in another stage

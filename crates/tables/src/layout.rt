@@ -3,6 +3,7 @@
 // or the least length of a slice; the last region of a slice runs to its end.
 use crate::MAX_EDGES;
 use crate::MAX_NODES;
+use crate::MAX_PAIRS;
 
 pub const MAX_HALF_EDGES: usize = 2 * MAX_EDGES;
 
@@ -15,10 +16,15 @@ pub const SEGMENTS: usize = NODES_Z + MAX_NODES;
 
 pub const FLOATS: usize = SEGMENTS + 6 * MAX_EDGES;
 
-// In `numbers` the nodes where half-edges start, then those where they end.
+// In `numbers` the nodes where half-edges start, then those where they end; then the place of each
+// edge's list of line ids, and for each pair of such a list the place of the next one.
 pub const TARGETS: usize = MAX_HALF_EDGES;
 
-pub const NUMBERS: usize = TARGETS + MAX_HALF_EDGES;
+pub const LIST_PLACES: usize = TARGETS + MAX_HALF_EDGES;
+
+pub const LINKS: usize = LIST_PLACES + MAX_EDGES;
+
+pub const NUMBERS: usize = LINKS + MAX_PAIRS;
 
 // In `stars` the star table, then the degrees.
 pub const DEGREES: usize = MAX_HALF_EDGES;
@@ -30,8 +36,10 @@ pub const HALF_MARKS: usize = MAX_NODES;
 
 pub const MARKS: usize = HALF_MARKS + MAX_HALF_EDGES;
 
-// In `ids` the line ids alone.
-pub const IDS: usize = MAX_EDGES;
+// In `ids` the line ids of the edges, then those of the pairs.
+pub const PAIR_IDS: usize = MAX_EDGES;
+
+pub const IDS: usize = PAIR_IDS + MAX_PAIRS;
 
 // Where each node's star begins in a list of all, and where the last one ends.
 pub const STAR_OFFSETS: usize = MAX_NODES + 1;

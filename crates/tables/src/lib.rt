@@ -21,11 +21,14 @@ pub use crate::layout::DEGREES;
 pub use crate::layout::FLOATS;
 pub use crate::layout::HALF_MARKS;
 pub use crate::layout::IDS;
+pub use crate::layout::LINKS;
+pub use crate::layout::LIST_PLACES;
 pub use crate::layout::MARKS;
 pub use crate::layout::MAX_HALF_EDGES;
 pub use crate::layout::NODES_Y;
 pub use crate::layout::NODES_Z;
 pub use crate::layout::NUMBERS;
+pub use crate::layout::PAIR_IDS;
 pub use crate::layout::SEGMENTS;
 pub use crate::layout::STAR_OFFSETS;
 pub use crate::layout::STARS;
@@ -56,7 +59,7 @@ impl PlanarGraph {
     }
 }
 
-// Why a call is refused, by document 01's numbers 1 to 8.
+// Why a call is refused, by document 01's numbers 1 to 8 and document 02's 12.
 pub enum Refusal {
     NotWhole,
     SameNode,
@@ -66,9 +69,10 @@ pub enum Refusal {
     TableTooShort,
     Unsound,
     ListTooShort,
+    TooManyPairs,
 }
 
-// Document 01's number of a refusal.
+// The documents' number of a refusal.
 pub fn refusal_number(why: Refusal) -> u32
     ensures { λ r. ⌜ r ≡ refusalNumber why ⌝ }
 {
@@ -81,13 +85,19 @@ pub fn refusal_number(why: Refusal) -> u32
         Refusal::TableTooShort => 6,
         Refusal::Unsound => 7,
         Refusal::ListTooShort => 8,
+        Refusal::TooManyPairs => 12,
     }
 }
 
-// How many nodes and edges the tables hold at most.
+// How many nodes, edges, and pairs of a line id and a place the tables hold at most.
 pub const MAX_NODES: usize = 1024;
 
 pub const MAX_EDGES: usize = 1024;
+
+pub const MAX_PAIRS: usize = 4096;
+
+// No place: it ends a list of line ids.
+pub const LIST_END: u16 = 65535;
 
 // A number as an index.
 pub fn wide(n: u16) -> usize

@@ -1,4 +1,4 @@
-// Number 7: the soundness list, a small function for each of its tests, and all of them in one. A test
+// Number 7: document 01's soundness list, a small function for each of its tests, and all of them in one. A test
 // goes on past what fails it: a sound state is read to its end anyway, and a loop with one way out takes
 // many entries at a time.
 ghost use mathlib.Core.Path.{_≡_};
@@ -9,7 +9,8 @@ ghost use lib.ListN.{length};
 ghost use lib.Ieee.{Float};
 ghost use Rattle.lists.specs.Lists.{upto, all};
 ghost use Rattle.rules.specs.Limits.{limits};
-ghost use Rattle.rules.specs.State.{sound};
+ghost use Rattle.rules.specs.LineIds.{Tracings};
+ghost use Rattle.rules.specs.State.{soundGraph};
 ghost use Rattle.tables.specs.Tables.{stateOf};
 ghost use Rattle.tables.specs.Tests.{countsWithin, endsSwap, twinsAlike, standsOnce, liesWhole, startsAt, unmarked, nodeFresh, freshTables, listedTables};
 ghost use Rattle.tables.specs.Given.{Room, Listable, Resettable};
@@ -182,7 +183,7 @@ fn tables_fresh(
     nodes_fresh(nodes, nodes_degree, nodes_marked, &counts) & none_marked(halves, dir_edges_marked)
 }
 
-// The soundness list holds. What the three tables hold that no test reads does not matter.
+// The list holds. What the tables hold that no test reads does not matter.
 pub fn is_sound(
     graph: PlanarGraph,
     nodes_x: &[f64],
@@ -195,7 +196,7 @@ pub fn is_sound(
     nodes_outgoing: &[u16],
 ) -> bool
     requires { ⌜ Room limits (now «nodes_x») (now «nodes_y») (now «nodes_degree») (now «nodes_marked») (now «dir_edges_src») (now «dir_edges_dst») (now «dir_edges_marked») (now «nodes_outgoing») ⌝ }
-    ensures { λ r. ⌜ ((nodesZ edgesLine : List Float) (edgesLineId : List ℕ) → r ≡ sound limits (stateOf graph (now («nodes_x» .entry)) (now («nodes_y» .entry)) nodesZ (now («nodes_degree» .entry)) (now («nodes_marked» .entry)) edgesLine edgesLineId (now («dir_edges_src» .entry)) (now («dir_edges_dst» .entry)) (now («dir_edges_marked» .entry)) (now («nodes_outgoing» .entry)))) ⌝ }
+    ensures { λ r. ⌜ ((nodesZ edgesLine : List Float) (edgesLineId : List ℕ) (tracings : Tracings) → r ≡ soundGraph limits (stateOf graph (now («nodes_x» .entry)) (now («nodes_y» .entry)) nodesZ (now («nodes_degree» .entry)) (now («nodes_marked» .entry)) edgesLine edgesLineId (now («dir_edges_src» .entry)) (now («dir_edges_dst» .entry)) (now («dir_edges_marked» .entry)) (now («nodes_outgoing» .entry)) tracings)) ⌝ }
 {
     if !counts_within(graph) {
         return false;

@@ -11,7 +11,7 @@ use Rattle.geometry.specs.declared.Coord3D.{Coord3D}
 use Rattle.rules.specs.Adding.{withNode}
 use Rattle.rules.specs.Limits.{Limits}
 use Rattle.tables.specs.Tables.{stateOf}
-use Rattle.tables.specs.Regions.{xsIn, ysIn, zsIn, segmentsIn, sourcesIn, targetsIn, stateIn}
+use Rattle.tables.specs.Regions.{xsIn, ysIn, zsIn, segmentsIn, sourcesIn, targetsIn, lineIdsIn, tracingsIn, stateIn}
 use Rattle.tables.specs.declared.PlanarGraph.{PlanarGraph}
 use Rattle.tables.proofs.Regions.{region-set-inside, region-set-before, region-set-behind}
 use Rattle.writing.specs.Written.{nodeCounted}
@@ -66,11 +66,12 @@ module _ (l : Limits) (n : ℕ) (p : Coord3D) (few : n < l .nodes) where
       (drop-set-add (2 * l .edges) stars n 0 i)
       (take-set-lt (l .nodes) marks n false few i)
       (segments-kept floats i)
-      ids
+      (lineIdsIn l ids)
       (sourcesIn l numbers)
       (targetsIn l numbers)
       (drop-set-lt (l .nodes) marks n false few i)
       (star i)
+      (tracingsIn l numbers ids)
 
   -- the same at the index that the code has of it, where it tested that the node is new
   pub node-stored : (g : PlanarGraph) (floats : List Float) (numbers stars : List ℕ) (marks : List Bool) (ids : List ℕ)

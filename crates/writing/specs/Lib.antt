@@ -1,2 +1,2 @@
--- Writing a new node and a new edge.
+-- Writing a new node, a new edge, and a new line id behind an edge.
 pub mod Written

@@ -5,7 +5,7 @@ ghost use Prim.Native.Nat.{_+_, _*_, _<_, _≤_};
 ghost use lib.ListN.{length};
 ghost use Rattle.rules.specs.Adding.{putSegment};
 ghost use Rattle.rules.specs.Limits.{limits};
-ghost use Rattle.tables.specs.Regions.{xsIn, ysIn, zsIn, segmentsIn, sourcesIn, targetsIn, starTableIn, degreesIn, nodeMarksIn, halfMarksIn, leastFloats, leastNumbers, leastStars, leastMarks};
+ghost use Rattle.tables.specs.Regions.{xsIn, ysIn, zsIn, segmentsIn, sourcesIn, targetsIn, listPlacesIn, linksIn, starTableIn, degreesIn, nodeMarksIn, halfMarksIn, leastFloats, leastNumbers, leastStars, leastMarks};
 ghost use Rattle.adding.specs.Written.{raised, twoAt};
 ghost use Rattle.writing.specs.Written.{Raisable, StarRoom};
 use geometry::Line3D;
@@ -50,6 +50,8 @@ pub fn put_ends(edge: EdgeId, u: NodeId, v: NodeId, numbers: &mut [u16])
     requires { ⌜ (edge .0 < limits .edges) × (leastNumbers limits ≤ length (now numbers)) ⌝ }
     ensures source { λ _. ⌜ sourcesIn limits (now (numbers .exit)) ≡ twoAt (sourcesIn limits (now (numbers .entry))) (2 * edge .0) (u .0) (v .0) ⌝ }
     ensures target { λ _. ⌜ targetsIn limits (now (numbers .exit)) ≡ twoAt (targetsIn limits (now (numbers .entry))) (2 * edge .0) (v .0) (u .0) ⌝ }
+    ensures list { λ _. ⌜ listPlacesIn limits (now (numbers .exit)) ≡ listPlacesIn limits (now (numbers .entry)) ⌝ }
+    ensures link { λ _. ⌜ linksIn limits (now (numbers .exit)) ≡ linksIn limits (now (numbers .entry)) ⌝ }
 {
     let first = 2 * wide(edge.0);
     put_halves(numbers, first, u.0, v.0);

@@ -142,6 +142,7 @@ fn named(graph: &PlanarGraph, ring: ExtractedRing, half_edges: Vec<DirEdgeId>) -
 mod tests {
     use super::*;
     use crate::original::Line3D;
+    use crate::PolygonizeError;
 
     fn graph(lines: &[[i32; 4]]) -> PlanarGraph {
         let mut graph = PlanarGraph::new();
@@ -153,6 +154,33 @@ mod tests {
             });
         }
         graph
+    }
+
+    /// What the original's check says of an edge whose line id and list of ids are these.
+    fn checked(line_id: u32, line_ids: &[u32]) -> Option<String> {
+        let mut graph = graph(&[[0, 0, 1, 0]]);
+        graph.edges[0].line.line_id = line_id;
+        graph.edges[0].sources.line_ids = line_ids.to_vec();
+        let checked = graph.validate_arrangement_edge_invariants();
+        checked
+            .err()
+            .map(|PolygonizeError::InternalInvariantViolation { reason }| reason)
+    }
+
+    /// All that the delivered text says of the order of an edge's ids: they rise strictly, and the
+    /// first is the edge's. Sorting makes this check.
+    #[test]
+    fn sorting_wants_rising_ids() {
+        assert_eq!(checked(3, &[3, 4, 5]), None);
+        for (line_id, line_ids, why) in [
+            (3, &[][..], "has no sources"),
+            (3, &[3, 5, 4], "not strictly sorted: 5 then 4"),
+            (3, &[3, 3], "not strictly sorted: 3 then 3"),
+            (5, &[3, 4, 5], "line_id=5, first_source=3"),
+        ] {
+            let said = checked(line_id, line_ids).expect("a reason");
+            assert!(said.contains(why), "{said}");
+        }
     }
 
     #[test]

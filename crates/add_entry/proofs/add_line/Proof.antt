@@ -6,6 +6,7 @@ use Rattle.rules.specs.Claim.{Given64}
 use Rattle.tables.specs.Regions.{stateIn}
 use Rattle.calls.proofs.Shells.{stage-passed}
 use Rattle.adding.specs.Outcomes.{Ready}
+use Rattle.placing.proofs.Seekable.{seekable-in}
 use Rattle.making.proofs.Searching.{searchable-in}
 use Rattle.add_entry.proofs.Shell.{add-stops}
 use borrow.Author.Needs.{needs}
@@ -72,29 +73,38 @@ find-matches-requires c κs =
     let a = entry (d .before .before) .args in
     searchable-in (a .graph) (a .floats .now) (a .numbers .now) (a .stars .now) (a .marks .now) (a .ids .now) (ready d)
 
+find-place-requires : tie.Need-find-place-requires
+find-place-requires c κs =
+    let d = c .before .before .before .before .before .before in
+    let a = entry (d .before .before) .args in
+    seekable-in (a .graph) (a .floats .now) (a .numbers .now) (a .stars .now) (a .marks .now) (a .ids .now) (ready d)
+
 add-found-requires : tie.Need-add-found-requires
 add-found-requires c κs =
-    let m = c .before .before .before .before .before in
-    (ready (m .before .before .before .before), m .find-matches .ensures)
+    let p = c .before .before .before .before .before in
+    let m = p .before .before .before in
+    let d = m .before .before .before .before in
+    let a = entry (d .before .before) .args in
+    (ready d, (m .find-matches .ensures, p .find-place .ensures (a .floats .now) (a .stars .now) (a .marks .now)))
 
 same-length-6 : tie.Need-same-length-6
-same-length-6 c = added c .add-found .kept .1 .1 .1 .0
+same-length-6 c = added c .add-found .kept .1 .1 .1 .1 .0
 
 same-length-7 : tie.Need-same-length-7
-same-length-7 c = added c .add-found .kept .1 .1 .1 .1 .0
+same-length-7 c = added c .add-found .kept .1 .1 .1 .1 .1 .0
 
 same-length-8 : tie.Need-same-length-8
-same-length-8 c = added c .add-found .kept .1 .1 .1 .1 .1 .0
+same-length-8 c = added c .add-found .kept .1 .1 .1 .1 .1 .1 .0
 
 same-length-9 : tie.Need-same-length-9
-same-length-9 c = added c .add-found .kept .1 .1 .1 .1 .1 .1 .0
+same-length-9 c = added c .add-found .kept .1 .1 .1 .1 .1 .1 .1 .0
 
 same-length-10 : tie.Need-same-length-10
-same-length-10 c = added c .add-found .kept .1 .1 .1 .1 .1 .1 .1 .0
+same-length-10 c = added c .add-found .kept .1 .1 .1 .1 .1 .1 .1 .1 .0
 
 returns-2 : tie.Need-returns-2
 returns-2 c =
-    let d = added c .before .before .before .before .before .before .before .before .before .before in
+    let d = added c .before .before .before .before .before .before .before .before .before .before .before .before .before in
     record { outcome = added c .add-found .ensures; floats = given (entry (d .before .before)) }
 
 pub add-line-spec : {M : Type 1} → statement M
@@ -111,6 +121,7 @@ add-line-spec =
     returns
     enum-told
     find-matches-requires
+    find-place-requires
     add-found-requires
     same-length-6
     same-length-7

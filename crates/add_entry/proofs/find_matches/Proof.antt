@@ -1,10 +1,4 @@
 -- `find_matches` meets its contract: the searches read the regions, lent as parts.
-use Prim.Native.Nat.{_*_}
-use mathlib.Core.Path.{sym, ap, subst, _∙_}
-use Rattle.rules.specs.Limits.{limits}
-use Rattle.tables.specs.Regions.{xsIn, ysIn, sourcesIn, starTableIn}
-use Rattle.tables.proofs.Regions.{tail-is}
-use Rattle.adding.specs.Searches.{Searchable, findHalfIn}
 use borrow.Author.Needs.{needs}
 use Rattle.add_entry.proofs.find_matches.Statement.{statement}
 use Rattle.add_entry.proofs.find_matches.Tie as tie
@@ -67,22 +61,17 @@ part-find-edge-end-3 c = search needs
 find-edge-requires : tie.Need-find-edge-requires
 find-edge-requires c κs =
     let k = entry (c .before .before .before .before) in
-    let a = k .args in
-    let q = subst (λ t. Searchable (a .graph .«node_count») (a .graph .«edge_count») (xsIn limits (a .floats .now)) (ysIn limits (a .floats .now)) (sourcesIn limits (a .numbers .now)) t (starTableIn limits (a .stars .now)))
-    (sym (tail-is (2 * limits .edges) (a .numbers .now))) (k .pre .tables) in
+    let q = k .pre .tables in
     ((q .fewEdges, q .roomStar), (q .known, q .within))
 
 returns : tie.Need-returns
 returns c =
     let two = c .before .before .before .before in
     let one = two .before in
-    let a = entry one .args in
     record {
       start = one .find-node .ensures;
       end = two .find-node2 .ensures;
-      half = c .find-edge .ensures
-          ∙ ap (λ t. findHalfIn (a .graph .«edge_count») (sourcesIn limits (a .numbers .now)) t (starTableIn limits (a .stars .now)) (one .find-node .result .0) (two .find-node2 .result .0))
-          (tail-is (2 * limits .edges) (a .numbers .now));
+      half = c .find-edge .ensures;
     }
 
 pub find-matches-spec : {M : Type 1} → statement M

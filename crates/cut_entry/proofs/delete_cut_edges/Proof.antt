@@ -7,7 +7,7 @@ use Rattle.geometry.specs.Reply.{success}
 use Rattle.rules.specs.Limits.{limits}
 use Rattle.rules.specs.State.{State}
 use Rattle.tables.specs.Tables.{stateOf}
-use Rattle.tables.specs.Regions.{stateIn, xsIn, ysIn, zsIn, segmentsIn, sourcesIn, targetsIn, starTableIn, degreesIn}
+use Rattle.tables.specs.Regions.{stateIn, xsIn, ysIn, zsIn, segmentsIn, sourcesIn, targetsIn, starTableIn, degreesIn, lineIdsIn, tracingsIn}
 use Rattle.tables.proofs.SliceRoom.{room-of}
 use Rattle.stars.proofs.Sound.{sound-groupable, sound-sortable}
 use Rattle.calls.specs.Replies.{leftWith}
@@ -97,7 +97,7 @@ returns-3 c =
     let e = r .cut-region .ensures .0 in
     (λ i. leftWith (success (record { count = e .count i; census = e .counted i }))
     (stateOf (e .advanced i) (xsIn limits floats) (ysIn limits floats) (zsIn limits floats) (degreesIn limits stars) (r .cut-region .ensures .1 i)
-    (segmentsIn limits floats) (a .ids .now) (sourcesIn limits numbers) (targetsIn limits numbers) (e .marked i) (starTableIn limits stars))
+    (segmentsIn limits floats) (lineIdsIn limits (a .ids .now)) (sourcesIn limits numbers) (targetsIn limits numbers) (e .marked i) (starTableIn limits stars) (tracingsIn limits numbers (a .ids .now)))
     (e .listed i))
     ∙ cut-passes limits (held k) (a .out .now) (good d .0) (good d .1) (long f)
 

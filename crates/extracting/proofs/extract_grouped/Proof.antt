@@ -12,6 +12,7 @@ use lib.Seq.{length-take-le}
 use Rattle.lists.specs.Lists.{flatten, over}
 use Rattle.rules.specs.Limits.{limits}
 use Rattle.rules.specs.Split.{minimalRings}
+use Rattle.rules.specs.LineIds.{Tracings}
 use Rattle.rules.specs.State.{State, arrangement, nodeKey, sound}
 use Rattle.rules.specs.Naming.{namingComparisons}
 use Rattle.rules.specs.Ringing.{ringsOf, sideNumber, sideArea}
@@ -34,9 +35,9 @@ use Rattle.extracting.proofs.extract_grouped.Tie as tie
 -- ---- what is known after each call, in any sound state that has the tables
 
 -- the state with the tables that are not read
-abbrev held : tie.Start → List Float → List ℕ → List Bool → List Float → List ℕ → List ℕ → List ℕ → State
-held s zs ds nm lines ids target star =
-    stateOf (s .args .graph) (s .args .nodes-x .now) (s .args .nodes-y .now) zs ds nm lines ids (s .args .dir-edges-src .now) target (s .args .dir-edges-marked .now) star
+abbrev held : tie.Start → List Float → List ℕ → List Bool → List Float → List ℕ → List ℕ → List ℕ → Tracings → State
+held s zs ds nm lines ids target star tr =
+    stateOf (s .args .graph) (s .args .nodes-x .now) (s .args .nodes-y .now) zs ds nm lines ids (s .args .dir-edges-src .now) target (s .args .dir-edges-marked .now) star tr
 
 -- the groups are its stars
 abbrev Stars : tie.Start → List ℕ → Type 0
@@ -44,7 +45,7 @@ Stars s star = Grouped (s .args .graph .«node_count») (s .args .dir-edges-src 
 
 -- the state that is asked for
 abbrev own : tie.Start → State
-own s = let p = s .pre in held s (p .nodesZ) (p .degree) (p .nodesMarked) (p .lines) (p .lineIds) (p .target) (p .star)
+own s = let p = s .pre in held s (p .nodesZ) (p .degree) (p .nodesMarked) (p .lines) (p .lineIds) (p .target) (p .star) (p .tracings)
 
 -- the start, from the listing
 abbrev start : tie.After-list-rings → tie.Start
@@ -62,23 +63,23 @@ abbrev lent : tie.Start → RingRows
 lent s = rowsOf (s .args .ring-first .now) (s .args .ring-length .now) (s .args .ring-side .now) (s .args .ring-area .now)
 
 -- they hold the rings
-got : (w : tie.After-list-rings) (zs : List Float) (ds : List ℕ) (nm : List Bool) (lines : List Float) (ids target star : List ℕ) → sound limits (held (start w) zs ds nm lines ids target star) ≡ true → Stars (start w) star
-    → RingsListed (arrangement (held (start w) zs ds nm lines ids target star)) (start w .args .dir-edges-src .now) (start w .args .nodes-x .now) (start w .args .nodes-y .now) (start w .args .half-edges .now) (lent (start w)) (halves w) (rows w) (w .list-rings .result)
-got w zs ds nm lines ids target star sense gs =
+got : (w : tie.After-list-rings) (zs : List Float) (ds : List ℕ) (nm : List Bool) (lines : List Float) (ids target star : List ℕ) (tr : Tracings) → sound limits (held (start w) zs ds nm lines ids target star tr) ≡ true → Stars (start w) star
+    → RingsListed (arrangement (held (start w) zs ds nm lines ids target star tr)) (start w .args .dir-edges-src .now) (start w .args .nodes-x .now) (start w .args .nodes-y .now) (start w .args .half-edges .now) (lent (start w)) (halves w) (rows w) (w .list-rings .result)
+got w zs ds nm lines ids target star tr sense gs =
     let s = start w in
     subst (λ g. RingsListed g (s .args .dir-edges-src .now) (s .args .nodes-x .now) (s .args .nodes-y .now) (s .args .half-edges .now) (lent s) (halves w) (rows w) (w .list-rings .result))
-    (arrangement-is (held s zs ds nm lines ids target star)) (w .list-rings .ensures star gs (held-sane limits (held s zs ds nm lines ids target star) sense))
+    (arrangement-is (held s zs ds nm lines ids target star tr)) (w .list-rings .ensures star gs (held-sane limits (held s zs ds nm lines ids target star tr) sense))
 
 -- the listing, from where the total is known
 abbrev listing : tie.After-wide → tie.After-list-rings
 listing y = y .before .before .before .before .before .before .before .before .before .before .before .before
 
 -- the total is that of the rings
-whole : (y : tie.After-wide) (zs : List Float) (ds : List ℕ) (nm : List Bool) (lines : List Float) (ids target star : List ℕ) → sound limits (held (start (listing y)) zs ds nm lines ids target star) ≡ true → Stars (start (listing y)) star
-    → 2 * y .wide .result ≡ length (flatten (minimalRings (arrangement (held (start (listing y)) zs ds nm lines ids target star))))
-whole y zs ds nm lines ids target star sense gs =
+whole : (y : tie.After-wide) (zs : List Float) (ds : List ℕ) (nm : List Bool) (lines : List Float) (ids target star : List ℕ) (tr : Tracings) → sound limits (held (start (listing y)) zs ds nm lines ids target star tr) ≡ true → Stars (start (listing y)) star
+    → 2 * y .wide .result ≡ length (flatten (minimalRings (arrangement (held (start (listing y)) zs ds nm lines ids target star tr))))
+whole y zs ds nm lines ids target star tr sense gs =
     let w = listing y in
-    ap (λ k. 2 * k) (y .wide .ensures) ∙ total-is limits (held (start w) zs ds nm lines ids target star) sense (censusOf (w .list-rings .result .census)) (got w zs ds nm lines ids target star sense gs .counted)
+    ap (λ k. 2 * k) (y .wide .ensures) ∙ total-is limits (held (start w) zs ds nm lines ids target star tr) sense (censusOf (w .list-rings .result .census)) (got w zs ds nm lines ids target star tr sense gs .counted)
 
 -- where the total is known, from where the faces are numbered
 abbrev sized : tie.After-number-faces → tie.After-wide
@@ -89,7 +90,7 @@ inside : (y : tie.After-wide) → 2 * y .wide .result ≤ length (halves (listin
 inside y =
     let w = listing y in
     let p = start w .pre in
-    omega (arith, whole y (p .nodesZ) (p .degree) (p .nodesMarked) (p .lines) (p .lineIds) (p .target) (p .star) (p .sense) (p .groups), flat-few limits (own (start w)) (p .sense), p .long .inHalfEdges, w .list-rings .kept .1 .1 .1 .1 .1 .1 .1 .0)
+    omega (arith, whole y (p .nodesZ) (p .degree) (p .nodesMarked) (p .lines) (p .lineIds) (p .target) (p .star) (p .tracings) (p .sense) (p .groups), flat-few limits (own (start w)) (p .sense), p .long .inHalfEdges, w .list-rings .kept .1 .1 .1 .1 .1 .1 .1 .0)
 
 -- ---- the needs
 
@@ -120,7 +121,7 @@ mul-total : tie.Need-mul-total
 mul-total c =
     let s = start (listing c) in
     let p = s .pre in
-    omega (arith, whole c (p .nodesZ) (p .degree) (p .nodesMarked) (p .lines) (p .lineIds) (p .target) (p .star) (p .sense) (p .groups), flat-few limits (own s) (p .sense), is-sound limits (own s) (p .sense) .edges)
+    omega (arith, whole c (p .nodesZ) (p .degree) (p .nodesMarked) (p .lines) (p .lineIds) (p .target) (p .star) (p .tracings) (p .sense) (p .groups), flat-few limits (own s) (p .sense), is-sound limits (own s) (p .sense) .edges)
 
 slice-reshare-prefix-number-faces : tie.Need-slice-reshare-prefix-number-faces
 slice-reshare-prefix-number-faces c = inside c
@@ -140,35 +141,35 @@ number-faces-requires c κs =
     let s = start w in
     let p = s .pre in
     let k = own s in
-    let h = got w (p .nodesZ) (p .degree) (p .nodesMarked) (p .lines) (p .lineIds) (p .target) (p .star) (p .sense) (p .groups) .listed in
+    let h = got w (p .nodesZ) (p .degree) (p .nodesMarked) (p .lines) (p .lineIds) (p .target) (p .star) (p .tracings) (p .sense) (p .groups) .listed in
     let n = c .before .before .wide2 .ensures in (
       subst (λ m. Numberable limits (take (2 * y .wide .result) (halves w)) (rows w .first) (rows w .size) m (s .args .dir-edges-src .now) (s .args .nodes-x .now) (s .args .nodes-y .now) (rows w .area)) (sym n)
-          (numberable limits k (p .sense) (s .args .half-edges .now) (lent s) (halves w) (rows w) (w .list-rings .result .count) h (2 * y .wide .result) (whole y (p .nodesZ) (p .degree) (p .nodesMarked) (p .lines) (p .lineIds) (p .target) (p .star) (p .sense) (p .groups)) (p .roomed) fine-limits),
+          (numberable limits k (p .sense) (s .args .half-edges .now) (lent s) (halves w) (rows w) (w .list-rings .result .count) h (2 * y .wide .result) (whole y (p .nodesZ) (p .degree) (p .nodesMarked) (p .lines) (p .lineIds) (p .target) (p .star) (p .tracings) (p .sense) (p .groups)) (p .roomed) fine-limits),
       omega (arith, n, h .number, rings-few k, p .long .inFace),
     )
 
 -- the comparisons made are those of naming the rings
-made-is : (x : tie.After-number-faces) (zs : List Float) (ds : List ℕ) (nm : List Bool) (lines : List Float) (ids target star : List ℕ)
+made-is : (x : tie.After-number-faces) (zs : List Float) (ds : List ℕ) (nm : List Bool) (lines : List Float) (ids target star : List ℕ) (tr : Tracings)
     → let s = start (listing (sized x)) in
-    let k = held s zs ds nm lines ids target star in
+    let k = held s zs ds nm lines ids target star tr in
     sound limits k ≡ true → Stars s star → x .number-faces .result ≡ namingComparisons (nodeKey k) (arrangement k) (map (λ q. q .halfEdges) (ringsOf k))
-made-is x zs ds nm lines ids target star sense gs =
+made-is x zs ds nm lines ids target star tr sense gs =
     let y = sized x in
     let w = listing y in
     let s = start w in
-    let k = held s zs ds nm lines ids target star in
+    let k = held s zs ds nm lines ids target star tr in
     let total : ℕ = 2 * y .wide .result in
     x .number-faces .ensures .1
     ∙ ap (λ n. comparisonsAt (take total (halves w)) (rows w .first) (rows w .size) n (s .args .dir-edges-src .now) (s .args .nodes-x .now) (s .args .nodes-y .now)) (x .before .before .before .wide2 .ensures)
     ∙ comparisons-replied limits k sense (s .args .half-edges .now) (lent s) (halves w) (rows w) (w .list-rings .result .count)
-    (got w zs ds nm lines ids target star sense gs .listed) total (whole y zs ds nm lines ids target star sense gs)
+    (got w zs ds nm lines ids target star tr sense gs .listed) total (whole y zs ds nm lines ids target star tr sense gs)
 
 cast-comparisons : tie.Need-cast-comparisons
 cast-comparisons c =
     let x = c .before .before in
     let s = start (listing (sized x)) in
     let p = s .pre in
-    omega (arith, made-is x (p .nodesZ) (p .degree) (p .nodesMarked) (p .lines) (p .lineIds) (p .target) (p .star) (p .sense) (p .groups), comparisons-fit limits (own s) (p .sense) (lit< tt))
+    omega (arith, made-is x (p .nodesZ) (p .degree) (p .nodesMarked) (p .lines) (p .lineIds) (p .target) (p .star) (p .tracings) (p .sense) (p .groups), comparisons-fit limits (own s) (p .sense) (lit< tt))
 
 at-stage-requires : tie.Need-at-stage-requires
 at-stage-requires c κs = search needs
@@ -198,21 +199,21 @@ returns c =
     let w = listing y in
     let s = start w in
     let total : ℕ = 2 * y .wide .result in
-    λ zs ds nm lines ids target star sense gs.
-    let k = held s zs ds nm lines ids target star in
-    let q = got w zs ds nm lines ids target star sense gs in
+    λ zs ds nm lines ids target star tr sense gs.
+    let k = held s zs ds nm lines ids target star tr in
+    let q = got w zs ds nm lines ids target star tr sense gs in
     let h = q .listed in
     record {
       advanced = c .at-stage .ensures;
       count = h .number ∙ rings-many k;
       counted = q .counted;
-      compared = made-is x zs ds nm lines ids target star sense gs;
+      compared = made-is x zs ds nm lines ids target star tr sense gs;
       halfEdges = h .halves ∙ ap (λ r. over (flatten r) (s .args .half-edges .now)) (sym (rings-of-halves k));
       first = h .places ∙ ap (λ r. over r (s .args .ring-first .now)) (places-replied k);
       size = h .sizes ∙ ap (λ r. over r (s .args .ring-length .now)) (sizes-replied k);
       face = x .number-faces .ensures .0 ∙ ap (λ r. over r (s .args .ring-face .now))
           (ap (λ n. faceNumbers (ringsAt (take total (halves w)) (rows w .first) (rows w .size) n (s .args .dir-edges-src .now) (s .args .nodes-x .now) (s .args .nodes-y .now))) (x .before .before .before .wide2 .ensures)
-          ∙ faces-replied limits k sense (s .args .half-edges .now) (lent s) (halves w) (rows w) (w .list-rings .result .count) h total (whole y zs ds nm lines ids target star sense gs));
+          ∙ faces-replied limits k sense (s .args .half-edges .now) (lent s) (halves w) (rows w) (w .list-rings .result .count) h total (whole y zs ds nm lines ids target star tr sense gs));
       side = h .sides ∙ ap (λ r. over r (s .args .ring-side .now)) (sides-replied sideNumber limits fine-limits k sense);
       area = h .areas ∙ ap (λ r. over r (s .args .ring-area .now)) (sides-replied sideArea limits fine-limits k sense);
     }

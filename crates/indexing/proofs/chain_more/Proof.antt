@@ -1,12 +1,5 @@
 -- `chain_more` meets its contract: the regions are lent as parts.
-use Prim.Native.Nat.{ℕ, _*_, _<_}
 use native.Mathlib.Omega.{arith}
-use mathlib.Core.Path.{sym, subst}
-use lib.ListN.{length, getD}
-use Rattle.rules.specs.Limits.{limits}
-use Rattle.tables.specs.Regions.{sourcesIn, starTableIn}
-use Rattle.tables.proofs.Regions.{tail-is}
-use Rattle.lookup.specs.Indexed.{HalvesChained}
 use borrow.Author.Needs.{needs}
 use Rattle.indexing.proofs.chain_more.Statement.{statement}
 use Rattle.indexing.proofs.chain_more.Tie as tie
@@ -80,16 +73,9 @@ mul-enter-halves-2 c = search needs
 enter-halves-requires : tie.Need-enter-halves-requires
 enter-halves-requires c κs =
     let k = entry (c .before .before .before .before .before .before .before .before) in
-    let a = k .args in
-    let n = a .graph .«edge_count» in
-    let source = sourcesIn limits (a .numbers .now) in
-    let star = starTableIn limits (a .stars .now) in
     let h = k .pre .1 .1 in
     let q = k .pre .0 .tables in
-    let t =
-    subst (λ t. HalvesChained (2 * a .chained .«edge_count») source t star (a .half-chains .now) × ((i : ℕ) → i < 2 * n → (getD star i 0 < length source) × (getD star i 0 < length t)))
-    (sym (tail-is (2 * limits .edges) (a .numbers .now))) (h .0, q .known) in
-    (t .0, ((omega (arith, h .1), q .roomStar, h .2), t .1))
+    (h .0, ((omega (arith, h .1), q .roomStar, h .2), q .known))
 
 same-length : tie.Need-same-length
 same-length c = nodes-at c .enter-nodes .kept .1 .1 .0
@@ -98,12 +84,7 @@ same-length-2 : tie.Need-same-length-2
 same-length-2 c = c .before .before .enter-halves .kept .1 .1 .1 .0
 
 returns : tie.Need-returns
-returns c =
-    let a = entry (nodes-at c) .args in (
-      nodes-at c .enter-nodes .ensures,
-      subst (λ t. HalvesChained (2 * a .graph .«edge_count») (sourcesIn limits (a .numbers .now)) t (starTableIn limits (a .stars .now)) (c .before .before .enter-halves .last .1 .1 .1 .0))
-          (tail-is (2 * limits .edges) (a .numbers .now)) (c .before .before .enter-halves .ensures),
-    )
+returns c = (nodes-at c .enter-nodes .ensures, c .before .before .enter-halves .ensures)
 
 pub chain-more-spec : {M : Type 1} → statement M
 chain-more-spec =

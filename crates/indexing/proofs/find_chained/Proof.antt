@@ -1,11 +1,4 @@
 -- `find_chained` meets its contract: the searches read the regions, lent as parts.
-use Prim.Native.Nat.{_*_}
-use mathlib.Core.Path.{sym, ap, subst, _∙_}
-use Rattle.rules.specs.Limits.{limits}
-use Rattle.tables.specs.Regions.{sourcesIn, starTableIn}
-use Rattle.tables.proofs.Regions.{tail-is}
-use Rattle.adding.specs.Searches.{findHalfIn}
-use Rattle.lookup.specs.Indexed.{HalvesChained}
 use borrow.Author.Needs.{needs}
 use Rattle.indexing.proofs.find_chained.Statement.{statement}
 use Rattle.indexing.proofs.find_chained.Tie as tie
@@ -68,24 +61,12 @@ part-find-half-end-3 c = search needs
 find-half-requires : tie.Need-find-half-requires
 find-half-requires c κs =
     let k = entry (c .before .before .before .before) in
-    let a = k .args in (
-      k .pre .0 .tables .fewEdges,
-      subst (λ t. HalvesChained (2 * a .graph .«edge_count») (sourcesIn limits (a .numbers .now)) t (starTableIn limits (a .stars .now)) (a .half-chains .now))
-          (sym (tail-is (2 * limits .edges) (a .numbers .now))) (k .pre .1 .1),
-    )
+    (k .pre .0 .tables .fewEdges, k .pre .1 .1)
 
 returns : tie.Need-returns
 returns c =
     let two = c .before .before .before .before in
-    let one = two .before in
-    let a = entry one .args in
-    record {
-      start = one .find-node .ensures;
-      end = two .find-node2 .ensures;
-      half = c .find-half .ensures
-          ∙ ap (λ t. findHalfIn (a .graph .«edge_count») (sourcesIn limits (a .numbers .now)) t (starTableIn limits (a .stars .now)) (one .find-node .result .0) (two .find-node2 .result .0))
-          (tail-is (2 * limits .edges) (a .numbers .now));
-    }
+    record { start = two .before .find-node .ensures; end = two .find-node2 .ensures; half = c .find-half .ensures }
 
 pub find-chained-spec : {M : Type 1} → statement M
 find-chained-spec =

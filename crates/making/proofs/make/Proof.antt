@@ -36,10 +36,10 @@ long k = omega (arith, k .pre .0 .starRoom, length-drop (2 * limits .edges) (k .
 
 -- the ends are below the limit
 from : (k : tie.Start) → k .args .ends .start .0 < limits .nodes
-from k = start-below _ _ (k .args .ends) (degreesIn limits (k .args .stars .now)) (k .pre .1) (long k)
+from k = start-below _ _ (k .args .ends) (degreesIn limits (k .args .stars .now)) (k .pre .1 .0) (long k)
 
 to : (k : tie.Start) → k .args .ends .end .0 < limits .nodes
-to k = end-below _ _ (k .args .ends) (degreesIn limits (k .args .stars .now)) (k .pre .1) (long k)
+to k = end-below _ _ (k .args .ends) (degreesIn limits (k .args .stars .now)) (k .pre .1 .0) (long k)
 
 add-node-requires : tie.Need-add-node-requires
 add-node-requires c κs =
@@ -100,7 +100,7 @@ add-edge-requires c κs =
     let k = entry (first d) in
     let a = k .args in
     let r = k .pre .0 in
-    let m = k .pre .1 in
+    let m = k .pre .1 .0 in
     let old = degreesIn limits (a .stars .now) in
     let starRoom : leastStars limits ≤ length (d .add-node2 .last .1 .1 .1 .1 .0) = omega (arith, r .starRoom, stars-kept d) in
     record {
@@ -119,27 +119,28 @@ add-edge-requires c κs =
         lowFrom = subst (λ t. Raisable t (a .ends .start .0)) (sym (degrees-entered d)) (omega (arith, low-start _ _ (a .ends) old m (long k)));
         lowTo = subst (λ t. Raisable (raised t (a .ends .start .0)) (a .ends .end .0)) (sym (degrees-entered d)) (low-raised _ _ (a .ends) old m (long k));
       };
+      space = k .pre .1 .1;
     }
 
 grown-requires : tie.Need-grown-requires
 grown-requires c κs =
-    let m = entry (first (second (c .before .before .before .before .before .before .before .before .before .before))) .pre .1 in
+    let m = entry (first (second (c .before .before .before .before .before .before .before .before .before .before))) .pre .1 .0 in
     (omega (arith, m .space), omega (arith, m .few))
 
 same-length : tie.Need-same-length
-same-length c = let d = third c in d .add-edge .kept .1 .1 .1 .1 .0 ∙ floats-kept (second d)
+same-length c = let d = third c in d .add-edge .kept .1 .1 .1 .1 .1 .0 ∙ floats-kept (second d)
 
 same-length-2 : tie.Need-same-length-2
-same-length-2 c = third c .add-edge .kept .1 .1 .1 .1 .1 .0
+same-length-2 c = third c .add-edge .kept .1 .1 .1 .1 .1 .1 .0
 
 same-length-3 : tie.Need-same-length-3
-same-length-3 c = let d = third c in d .add-edge .kept .1 .1 .1 .1 .1 .1 .0 ∙ stars-kept (second d)
+same-length-3 c = let d = third c in d .add-edge .kept .1 .1 .1 .1 .1 .1 .1 .0 ∙ stars-kept (second d)
 
 same-length-4 : tie.Need-same-length-4
-same-length-4 c = let d = third c in d .add-edge .kept .1 .1 .1 .1 .1 .1 .1 .0 ∙ marks-kept (second d)
+same-length-4 c = let d = third c in d .add-edge .kept .1 .1 .1 .1 .1 .1 .1 .1 .0 ∙ marks-kept (second d)
 
 same-length-5 : tie.Need-same-length-5
-same-length-5 c = third c .add-edge .kept .1 .1 .1 .1 .1 .1 .1 .1 .0
+same-length-5 c = third c .add-edge .kept .1 .1 .1 .1 .1 .1 .1 .1 .1 .0
 
 returns : tie.Need-returns
 returns c =
@@ -151,10 +152,10 @@ returns c =
     let one = nodeCounted (n .«new_start») (n .start .0) (a .graph) in
     let two = nodeCounted (n .«new_end») (n .end .0) one in
     let edges = node-edges (n .«new_end») (n .end .0) one ∙ node-edges (n .«new_start») (n .start .0) (a .graph) in
-    ap (λ g. stateIn limits g (e .add-edge .last .1 .1 .1 .1 .0) (e .add-edge .last .1 .1 .1 .1 .1 .0) (e .add-edge .last .1 .1 .1 .1 .1 .1 .0)
-    (e .add-edge .last .1 .1 .1 .1 .1 .1 .1 .0) (e .add-edge .last .1 .1 .1 .1 .1 .1 .1 .1 .0)) (c .grown .ensures ∙ grown-is (a .graph) n _ (k .pre .1))
+    ap (λ g. stateIn limits g (e .add-edge .last .1 .1 .1 .1 .1 .0) (e .add-edge .last .1 .1 .1 .1 .1 .1 .0) (e .add-edge .last .1 .1 .1 .1 .1 .1 .1 .0)
+    (e .add-edge .last .1 .1 .1 .1 .1 .1 .1 .1 .0) (e .add-edge .last .1 .1 .1 .1 .1 .1 .1 .1 .1 .0)) (c .grown .ensures ∙ grown-is (a .graph) n _ (k .pre .1 .0))
     ∙ e .add-edge .ensures two edges
-    ∙ ap (withEdge (n .start .0) (n .end .0) (a .line)) (nodes-made d)
+    ∙ ap (withEdge (n .start .0) (n .end .0) (a .place) (a .line)) (nodes-made d)
 
 pub make-spec : {M : Type 1} → statement M
 make-spec =

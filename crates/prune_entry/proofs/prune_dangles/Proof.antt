@@ -7,7 +7,7 @@ use Rattle.geometry.specs.Reply.{success}
 use Rattle.rules.specs.Limits.{limits}
 use Rattle.rules.specs.State.{State}
 use Rattle.tables.specs.Tables.{stateOf}
-use Rattle.tables.specs.Regions.{stateIn, xsIn, ysIn, zsIn, segmentsIn, sourcesIn, targetsIn}
+use Rattle.tables.specs.Regions.{stateIn, xsIn, ysIn, zsIn, segmentsIn, sourcesIn, targetsIn, lineIdsIn, tracingsIn}
 use Rattle.tables.proofs.SliceRoom.{room-of}
 use Rattle.stars.proofs.Sound.{sound-groupable}
 use Rattle.calls.specs.Replies.{leftWith}
@@ -107,7 +107,7 @@ returns-3 c =
     let e = r .prune-regions .ensures .0 in
     (λ i. leftWith (success ((e .count ∙ sym (length-reverse found)) i))
     (stateOf (e .advanced i) (xsIn limits floats) (ysIn limits floats) (zsIn limits floats) (e .degree i) (e .nodeMark i)
-    (segmentsIn limits floats) (a .ids .now) (sourcesIn limits numbers) (targetsIn limits numbers) (e .halfMark i) (r .prune-regions .ensures .1 i))
+    (segmentsIn limits floats) (lineIdsIn limits (a .ids .now)) (sourcesIn limits numbers) (targetsIn limits numbers) (e .halfMark i) (r .prune-regions .ensures .1 i) (tracingsIn limits numbers (a .ids .now)))
     (e .listed i))
     ∙ prune-passes limits (held k) (a .out .now) (good d .0) (good d .1) (long f)
 

@@ -4,7 +4,7 @@ use Rattle.geometry.specs.Reply.{success}
 use Rattle.rules.specs.Limits.{limits}
 use Rattle.rules.specs.State.{State}
 use Rattle.tables.specs.Tables.{stateOf}
-use Rattle.tables.specs.Regions.{stateIn, xsIn, ysIn, zsIn, segmentsIn, sourcesIn, targetsIn}
+use Rattle.tables.specs.Regions.{stateIn, xsIn, ysIn, zsIn, segmentsIn, sourcesIn, targetsIn, lineIdsIn, tracingsIn}
 use Rattle.tables.proofs.Shells.{reset-given, reset-is}
 use Rattle.tables.proofs.SliceRoom.{room-of}
 use Rattle.calls.specs.Replies.{left}
@@ -71,7 +71,7 @@ returns-2 c =
     let numbers = a .numbers .now in
     let e = r .reset-regions .ensures in
     (λ i. left (success (record {})) (stateOf (e .0 i) (xsIn limits floats) (ysIn limits floats) (zsIn limits floats) (e .1 .1 .0 i) (e .1 .1 .1 .0 i)
-    (segmentsIn limits floats) (a .ids .now) (sourcesIn limits numbers) (targetsIn limits numbers) (e .1 .1 .1 .1 i) (e .1 .0 i)))
+    (segmentsIn limits floats) (lineIdsIn limits (a .ids .now)) (sourcesIn limits numbers) (targetsIn limits numbers) (e .1 .1 .1 .1 i) (e .1 .0 i) (tracingsIn limits numbers (a .ids .now))))
     ∙ sym (reset-is limits (held k) (good d .room) (good d .sense))
 
 pub reset-spec : {M : Type 1} → statement M

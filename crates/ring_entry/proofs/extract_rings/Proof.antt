@@ -4,7 +4,7 @@ use mathlib.Core.Path.{refl, sym, subst}
 use Rattle.rules.specs.Limits.{limits}
 use Rattle.rules.specs.State.{State}
 use Rattle.rules.specs.Ringing.{RingLists}
-use Rattle.tables.specs.Regions.{stateIn, xsIn, ysIn, zsIn, segmentsIn, sourcesIn, targetsIn, starTableIn, degreesIn, nodeMarksIn, halfMarksIn}
+use Rattle.tables.specs.Regions.{stateIn, xsIn, ysIn, zsIn, segmentsIn, sourcesIn, targetsIn, starTableIn, degreesIn, nodeMarksIn, halfMarksIn, lineIdsIn, tracingsIn}
 use Rattle.tables.proofs.SliceRoom.{room-of}
 use Rattle.extracting.specs.Extraction.{listsOf}
 use Rattle.extracting.proofs.Outcome.{long-room, extraction-is-outcome}
@@ -108,7 +108,7 @@ returns-2 c =
     let marks = a .marks .now in
     let g = good d in
     sym (extraction-is-outcome limits (a .graph) (xsIn limits floats) (ysIn limits floats) (zsIn limits floats) (degreesIn limits stars) (nodeMarksIn limits marks)
-    (segmentsIn limits floats) (a .ids .now) (sourcesIn limits numbers) (targetsIn limits numbers) (halfMarksIn limits marks) (starTableIn limits stars)
+    (segmentsIn limits floats) (lineIdsIn limits (a .ids .now)) (sourcesIn limits numbers) (targetsIn limits numbers) (halfMarksIn limits marks) (starTableIn limits stars) (tracingsIn limits numbers (a .ids .now))
     (g .0) (g .1) (g .2) (lent k) _ _ (g .3) (r .extract-regions .ensures (a .ids .now) (g .1)))
 
 pub extract-rings-spec : {M : Type 1} → statement M

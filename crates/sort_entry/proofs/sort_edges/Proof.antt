@@ -4,7 +4,7 @@ use Rattle.geometry.specs.Reply.{success}
 use Rattle.rules.specs.Limits.{limits}
 use Rattle.rules.specs.State.{State}
 use Rattle.tables.specs.Tables.{stateOf}
-use Rattle.tables.specs.Regions.{stateIn, xsIn, ysIn, zsIn, segmentsIn, sourcesIn, targetsIn, nodeMarksIn, halfMarksIn}
+use Rattle.tables.specs.Regions.{stateIn, xsIn, ysIn, zsIn, segmentsIn, sourcesIn, targetsIn, nodeMarksIn, halfMarksIn, lineIdsIn, tracingsIn}
 use Rattle.tables.proofs.SliceRoom.{room-of}
 use Rattle.stars.proofs.Sound.{sound-sortable, sort-passed}
 use Rattle.calls.specs.Replies.{left}
@@ -66,7 +66,7 @@ returns-2 c =
     let marks = a .marks .now in
     let e = r .sort-region .ensures in
     (λ i. left (success (record {})) (stateOf (e .0 i) (xsIn limits floats) (ysIn limits floats) (zsIn limits floats) (e .1 .1 i) (nodeMarksIn limits marks)
-    (segmentsIn limits floats) (a .ids .now) (sourcesIn limits numbers) (targetsIn limits numbers) (halfMarksIn limits marks) (e .1 .0 i)))
+    (segmentsIn limits floats) (lineIdsIn limits (a .ids .now)) (sourcesIn limits numbers) (targetsIn limits numbers) (halfMarksIn limits marks) (e .1 .0 i) (tracingsIn limits numbers (a .ids .now))))
     ∙ sym (sort-passed limits (held k) (good d .0 .room) (good d .0 .sense) (good d .1))
 
 pub sort-edges-spec : {M : Type 1} → statement M

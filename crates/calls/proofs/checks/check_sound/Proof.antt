@@ -29,20 +29,19 @@ room c = sym (c .before .has-room .ensures (entry (c .before) .args .graph)) ∙
 is-sound-requires : tie.Need-is-sound-requires
 is-sound-requires c κs =
     let a = entry (c .before) .args in
-    let r = room-of limits (a .graph) (a .floats .now) (a .numbers .now) (a .stars .now) (a .marks .now) (a .ids .now) (room c) in
-    (r .floatRoom, r .numberRoom, r .starRoom, r .markRoom)
+    room-of limits (a .graph) (a .floats .now) (a .numbers .now) (a .stars .now) (a .marks .now) (a .ids .now) (room c)
 
 returns : tie.Need-returns
 returns c =
     let k = entry (c .before .before .before) in
     check-rest limits (held k) Passed (room (c .before .before))
-    (sym (c .before .is-sound .ensures (k .args .ids .now)) ∙ c .if2 .taken)
+    (sym (c .before .is-sound .ensures) ∙ c .if2 .taken)
 
 returns-2 : tie.Need-returns-2
 returns-2 c =
     let k = entry (c .before .before .before) in
     check-sense limits (held k) Passed (room (c .before .before))
-    (sym (c .before .is-sound .ensures (k .args .ids .now)) ∙ c .if2 .left)
+    (sym (c .before .is-sound .ensures) ∙ c .if2 .left)
 
 returns-3 : tie.Need-returns-3
 returns-3 c =

@@ -1,151 +1,42 @@
--- `is_sound` meets its contract: the regions are lent as parts.
-use Prim.Native.Nat.{_*_, _-_}
-use native.Mathlib.Omega.{arith}
-use mathlib.Core.Path.{_∙_}
-use lib.ListN.{length, drop, length-take, length-drop}
-use Rattle.rules.specs.Limits.{limits}
-use Rattle.rules.specs.State.{sound}
-use Rattle.tables.specs.Tables.{stateOf}
-use Rattle.tables.specs.Regions.{xsIn, ysIn, zsIn, segmentsIn, sourcesIn, starTableIn, nodeMarksIn}
-use Rattle.tables.proofs.Regions.{tail-is}
+-- `is_sound` meets its contract: the first list that fails decides.
 use borrow.Author.Needs.{needs}
+use mathlib.Core.Path.{_≡_, sym, _∙_}
+use mathlib.Core.Bool.{true}
+use Rattle.rules.specs.Limits.{limits}
+use Rattle.rules.specs.State.{State, soundGraph}
+use Rattle.tables.specs.Regions.{stateIn}
+use Rattle.calls.proofs.BothLists.{lists-decide, graph-fails, edges-few}
 use Rattle.calls.proofs.soundness.is_sound.Statement.{statement}
 use Rattle.calls.proofs.soundness.is_sound.Tie as tie
 
-sub-is-sound : tie.Need-sub-is-sound
-sub-is-sound c = search needs
+-- the state that the slices hold
+abbrev held : tie.Start → State
+held k = stateIn limits (k .args .graph) (k .args .floats .now) (k .args .numbers .now) (k .args .stars .now) (k .args .marks .now) (k .args .ids .now)
 
-part-is-sound-start : tie.Need-part-is-sound-start
-part-is-sound-start c = search needs
+-- the entry, from the place where document 01's list was tested
+abbrev entry : tie.After-is-sound-graph → tie.Start
+entry c = c .before .before .before .before .before .before
 
-part-is-sound-end : tie.Need-part-is-sound-end
-part-is-sound-end c = search needs
+is-sound-graph-requires : tie.Need-is-sound-graph-requires
+is-sound-graph-requires c κs = search needs
 
-sub-is-sound-2 : tie.Need-sub-is-sound-2
-sub-is-sound-2 c = search needs
+-- document 01's list holds
+passed : (c : tie.Then1) → soundGraph limits (held (entry (c .before))) ≡ true
+passed c = sym (c .before .is-sound-graph .ensures (entry (c .before) .args .ids .now)) ∙ c .if1 .taken
 
-part-is-sound-start-2 : tie.Need-part-is-sound-start-2
-part-is-sound-start-2 c = search needs
-
-part-is-sound-end-2 : tie.Need-part-is-sound-end-2
-part-is-sound-end-2 c = search needs
-
-sub-is-sound-3 : tie.Need-sub-is-sound-3
-sub-is-sound-3 c = search needs
-
-part-is-sound-start-3 : tie.Need-part-is-sound-start-3
-part-is-sound-start-3 c = search needs
-
-part-is-sound-end-3 : tie.Need-part-is-sound-end-3
-part-is-sound-end-3 c = search needs
-
-sub-is-sound-4 : tie.Need-sub-is-sound-4
-sub-is-sound-4 c = search needs
-
-part-is-sound-start-4 : tie.Need-part-is-sound-start-4
-part-is-sound-start-4 c = search needs
-
-part-is-sound-end-4 : tie.Need-part-is-sound-end-4
-part-is-sound-end-4 c = search needs
-
-sub-is-sound-5 : tie.Need-sub-is-sound-5
-sub-is-sound-5 c = search needs
-
-part-is-sound-start-5 : tie.Need-part-is-sound-start-5
-part-is-sound-start-5 c = search needs
-
-part-is-sound-end-5 : tie.Need-part-is-sound-end-5
-part-is-sound-end-5 c = search needs
-
-sub-is-sound-6 : tie.Need-sub-is-sound-6
-sub-is-sound-6 c = search needs
-
-part-is-sound-start-6 : tie.Need-part-is-sound-start-6
-part-is-sound-start-6 c = search needs
-
-part-is-sound-end-6 : tie.Need-part-is-sound-end-6
-part-is-sound-end-6 c = search needs
-
-sub-is-sound-7 : tie.Need-sub-is-sound-7
-sub-is-sound-7 c = search needs
-
-part-is-sound-start-7 : tie.Need-part-is-sound-start-7
-part-is-sound-start-7 c = search needs
-
-part-is-sound-end-7 : tie.Need-part-is-sound-end-7
-part-is-sound-end-7 c = search needs
-
-sub-is-sound-8 : tie.Need-sub-is-sound-8
-sub-is-sound-8 c = search needs
-
-part-is-sound-start-8 : tie.Need-part-is-sound-start-8
-part-is-sound-start-8 c = search needs
-
-part-is-sound-end-8 : tie.Need-part-is-sound-end-8
-part-is-sound-end-8 c = search needs
-
-is-sound-requires : tie.Need-is-sound-requires
-is-sound-requires c κs =
-    let k = c .before .before .before .before .before .before .before .before .before .before .before .before in
-    let floats = k .args .floats .now in
-    let numbers = k .args .numbers .now in
-    let stars = k .args .stars .now in
-    let marks = k .args .marks .now in
-    let n = limits .nodes in
-    let h = 2 * limits .edges in
-    record {
-      xRoom = omega (arith, k .pre .0, length-take n floats);
-      yRoom = omega (arith, k .pre .0, length-take n (drop n floats), length-drop n floats);
-      degreeRoom = omega (arith, k .pre .2, length-take (length stars - h) (drop h stars), length-drop h stars);
-      nodeMarkRoom = omega (arith, k .pre .3, length-take n marks);
-      sourceRoom = omega (arith, k .pre .1, length-take h numbers);
-      targetRoom = omega (arith, k .pre .1, length-take (length numbers - h) (drop h numbers), length-drop h numbers);
-      halfMarkRoom = omega (arith, k .pre .3, length-take (length marks - n) (drop n marks), length-drop n marks);
-      starRoom = omega (arith, k .pre .2, length-take h stars);
-    }
-
--- the entry, from the place where the list was tested
-abbrev entry : tie.After-is-sound → tie.Start
-entry c = c .before .before .before .before .before .before .before .before .before .before .before .before .before
+are-lists-sound-requires : tie.Need-are-lists-sound-requires
+are-lists-sound-requires c κs =
+    let k = entry (c .before) in
+    (edges-few limits (held k) (passed c), k .pre .numberRoom, k .pre .idRoom)
 
 returns : tie.Need-returns
-returns c ids =
-    let a = entry c .args in
-    let floats = a .floats .now in
-    let numbers = a .numbers .now in
-    let stars = a .stars .now in
-    let marks = a .marks .now in
-    c .is-sound .ensures (zsIn limits floats) (segmentsIn limits floats) ids
-    ∙ (λ i. sound limits (stateOf (a .graph) (xsIn limits floats) (ysIn limits floats) (zsIn limits floats) (tail-is (2 * limits .edges) stars i) (nodeMarksIn limits marks)
-    (segmentsIn limits floats) ids (sourcesIn limits numbers) (tail-is (2 * limits .edges) numbers i) (tail-is (limits .nodes) marks i) (starTableIn limits stars)))
+returns c = c .are-lists-sound .ensures ∙ lists-decide limits (held (entry (c .before .before))) (passed (c .before))
+
+returns-2 : tie.Need-returns-2
+returns-2 c =
+    let k = entry (c .before) in
+    graph-fails limits (held k) (sym (c .before .is-sound-graph .ensures (k .args .ids .now)) ∙ c .if1 .left)
 
 pub is-sound-spec : {M : Type 1} → statement M
 is-sound-spec =
-    tie.close
-    (tie.spec
-    sub-is-sound
-    part-is-sound-start
-    part-is-sound-end
-    sub-is-sound-2
-    part-is-sound-start-2
-    part-is-sound-end-2
-    sub-is-sound-3
-    part-is-sound-start-3
-    part-is-sound-end-3
-    sub-is-sound-4
-    part-is-sound-start-4
-    part-is-sound-end-4
-    sub-is-sound-5
-    part-is-sound-start-5
-    part-is-sound-end-5
-    sub-is-sound-6
-    part-is-sound-start-6
-    part-is-sound-end-6
-    sub-is-sound-7
-    part-is-sound-start-7
-    part-is-sound-end-7
-    sub-is-sound-8
-    part-is-sound-start-8
-    part-is-sound-end-8
-    is-sound-requires
-    returns)
+    tie.close (tie.spec is-sound-graph-requires are-lists-sound-requires returns returns-2)

@@ -44,25 +44,25 @@ enum-told : tie.Need-enum-told
 enum-told c = search needs
 
 same-length : tie.Need-same-length
-same-length c = added c .add-chained .kept .1 .1 .0
+same-length c = added c .add-chained .kept .1 .1 .1 .1 .0
 
 same-length-2 : tie.Need-same-length-2
-same-length-2 c = added c .add-chained .kept .1 .1 .1 .0
+same-length-2 c = added c .add-chained .kept .1 .1 .1 .1 .1 .0
 
 same-length-3 : tie.Need-same-length-3
-same-length-3 c = added c .add-chained .kept .1 .1 .1 .1 .0
+same-length-3 c = added c .add-chained .kept .1 .1 .1 .1 .1 .1 .0
 
 same-length-4 : tie.Need-same-length-4
-same-length-4 c = added c .add-chained .kept .1 .1 .1 .1 .1 .0
+same-length-4 c = added c .add-chained .kept .1 .1 .1 .1 .1 .1 .1 .0
 
 same-length-5 : tie.Need-same-length-5
-same-length-5 c = added c .add-chained .kept .1 .1 .1 .1 .1 .1 .0
+same-length-5 c = added c .add-chained .kept .1 .1 .1 .1 .1 .1 .1 .1 .0
 
 same-length-6 : tie.Need-same-length-6
-same-length-6 c = added c .add-chained .kept .1 .1 .1 .1 .1 .1 .1 .0
+same-length-6 c = added c .add-chained .kept .1 .1 .1 .1 .1 .1 .1 .1 .1 .0
 
 same-length-7 : tie.Need-same-length-7
-same-length-7 c = added c .add-chained .kept .1 .1 .1 .1 .1 .1 .1 .1 .0
+same-length-7 c = added c .add-chained .kept .1 .1 .1 .1 .1 .1 .1 .1 .1 .1 .0
 
 returns : tie.Need-returns
 returns c =

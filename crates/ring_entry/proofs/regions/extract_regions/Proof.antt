@@ -9,7 +9,7 @@ use Rattle.rules.specs.Limits.{limits}
 use Rattle.rules.specs.State.{State, roomy, sound}
 use Rattle.rules.specs.Ringing.{RingLists}
 use Rattle.tables.specs.Tables.{stateOf}
-use Rattle.tables.specs.Regions.{xsIn, ysIn, zsIn, segmentsIn, sourcesIn, targetsIn, starTableIn, degreesIn, nodeMarksIn, halfMarksIn}
+use Rattle.tables.specs.Regions.{xsIn, ysIn, zsIn, segmentsIn, sourcesIn, targetsIn, starTableIn, degreesIn, nodeMarksIn, halfMarksIn, lineIdsIn, tracingsIn}
 use Rattle.tables.proofs.Regions.{tail-is}
 use Rattle.stars.proofs.Sound.{sound-groupable}
 use Rattle.extracting.specs.Extraction.{listsOf, Extraction}
@@ -52,7 +52,7 @@ heldWith k ids halves =
     let numbers = k .args .numbers .now in
     let stars = k .args .stars .now in
     stateOf (k .args .graph) (xsIn limits floats) (ysIn limits floats) (zsIn limits floats) (degreesIn limits stars) (nodeMarksIn limits (k .args .marks .now))
-    (segmentsIn limits floats) ids (sourcesIn limits numbers) (targetsIn limits numbers) halves (starTableIn limits stars)
+    (segmentsIn limits floats) (lineIdsIn limits ids) (sourcesIn limits numbers) (targetsIn limits numbers) halves (starTableIn limits stars) (tracingsIn limits numbers ids)
 
 group-stars-requires : tie.Need-group-stars-requires
 group-stars-requires c κs =
@@ -117,9 +117,10 @@ extract-grouped-requires c κs =
       degree = degreesIn limits (k .args .stars .now);
       nodesMarked = nodeMarksIn limits (k .args .marks .now);
       lines = segmentsIn limits (k .args .floats .now);
-      lineIds = s .ids;
+      lineIds = lineIdsIn limits (s .ids);
       target = targetsIn limits (k .args .numbers .now);
       star = starTableIn limits (k .args .stars .now);
+      tracings = tracingsIn limits (k .args .numbers .now) (s .ids);
       roomed = subst (λ (m : List Bool). roomy limits (heldWith k (s .ids) m) ≡ true) (sym (lent-is k)) (s .roomed);
       sense = subst (λ (m : List Bool). sound limits (heldWith k (s .ids) m) ≡ true) (sym (lent-is k)) (s .sense);
       groups = q .group-stars .ensures;
@@ -161,7 +162,7 @@ returns c ids sense =
     let k = entry (q .before) in
     let e =
     r .extract-grouped .ensures (zsIn limits (k .args .floats .now)) (degreesIn limits (k .args .stars .now)) (nodeMarksIn limits (k .args .marks .now))
-    (segmentsIn limits (k .args .floats .now)) ids (targetsIn limits (k .args .numbers .now)) (starTableIn limits (k .args .stars .now))
+    (segmentsIn limits (k .args .floats .now)) (lineIdsIn limits ids) (targetsIn limits (k .args .numbers .now)) (starTableIn limits (k .args .stars .now)) (tracingsIn limits (k .args .numbers .now) ids)
     (subst (λ (m : List Bool). sound limits (heldWith k ids m) ≡ true) (sym (lent-is k)) sense) (q .group-stars .ensures) in
     subst (λ (m : List Bool). Extraction (heldWith k ids m) (lent k) (written r) (r .extract-grouped .result)) (lent-is k) e
 

@@ -1,14 +1,11 @@
 -- `sort_region` meets its contract: the star table is lent as the front of its slice.
-use Prim.Native.Nat.{ℕ, _*_, _≤_}
+use Prim.Native.Nat.{_*_, _≤_}
 use native.Mathlib.Omega.{arith}
-use mathlib.Core.Path.{ap, _∙_}
-use mathlib.Core.List.{List}
+use mathlib.Core.Path.{_∙_}
 use lib.ListN.{length}
 use borrow.Rule.Slice.PartMut.{same-len-mid}
 use Rattle.rules.specs.Limits.{limits}
-use Rattle.tables.specs.Regions.{xsIn, ysIn, sourcesIn, starTableIn}
-use Rattle.tables.proofs.Regions.{tail-is, front-inside, front-behind}
-use Rattle.stars.specs.Sorted.{sortedTable}
+use Rattle.tables.proofs.Regions.{front-inside, front-behind}
 use borrow.Author.Needs.{needs}
 use Rattle.sort_entry.proofs.regions.sort_region.Statement.{statement}
 use Rattle.sort_entry.proofs.regions.sort_region.Tie as tie
@@ -63,18 +60,12 @@ abbrev entry : tie.After-sort-stars-arg5 → tie.Start
 entry c = c .before .before .before .before .before .before .before .before
 
 sort-stars-requires : tie.Need-sort-stars-requires
-sort-stars-requires c κs = rw (tail-is (2 * limits .edges) (entry c .args .numbers .now)) (entry c .pre .1)
+sort-stars-requires c κs = entry c .pre .1
 
 same-length : tie.Need-same-length
 same-length c =
     let r = c .before .before in
     same-len-mid 0 (2 * limits .edges) (entry (r .before) .args .stars .now) (r .sort-stars .last .1 .1 .1 .1 .1 .0) (r .sort-stars .kept .1 .1 .1 .1 .1 .0)
-
--- the sorted star table, by the nodes where half-edges end
-abbrev sortedBy : tie.Start → List ℕ → List ℕ
-sortedBy k targets =
-    let a = k .args in
-    sortedTable (a .graph .«node_count») (a .graph .«edge_count») (xsIn limits (a .floats .now)) (ysIn limits (a .floats .now)) (sourcesIn limits (a .numbers .now)) targets (starTableIn limits (a .stars .now))
 
 returns : tie.Need-returns
 returns c =
@@ -86,7 +77,7 @@ returns c =
     let room : 2 * limits .edges ≤ length stars = omega arith in (
       r .sort-stars .ensures .0,
       (
-        front-inside (2 * limits .edges) stars after room kept ∙ r .sort-stars .ensures .1 ∙ ap (sortedBy k) (tail-is (2 * limits .edges) (k .args .numbers .now)),
+        front-inside (2 * limits .edges) stars after room kept ∙ r .sort-stars .ensures .1,
         front-behind (2 * limits .edges) stars after room kept,
       ),
     )

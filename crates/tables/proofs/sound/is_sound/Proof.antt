@@ -14,7 +14,7 @@ counts-within-requires : tie.Need-counts-within-requires
 counts-within-requires c κs = search needs
 
 returns : tie.Need-returns
-returns c z line id =
+returns c z line id t =
     let counts = sym (c .before .counts-within .ensures) ∙ not-true _ (c .if1 .taken) in
     unsound-counts limits _ counts
 
@@ -36,13 +36,13 @@ tables-listed-requires c κs =
     }
 
 returns-2 : tie.Need-returns-2
-returns-2 c z line id =
+returns-2 c z line id t =
     let counts = sym (c .before .before .before .counts-within .ensures) ∙ not-false _ (c .before .before .if1 .left) in
     let lists = sym (c .before .tables-listed .ensures) ∙ not-true _ (c .if2 .taken) in
     unsound-tables limits _ counts lists
 
 returns-3 : tie.Need-returns-3
-returns-3 c z line id =
+returns-3 c z line id t =
     let counts = sym (c .before .before .before .before .before .counts-within .ensures) ∙ not-false _ (c .before .before .before .before .if1 .left) in
     let lists = sym (c .before .before .before .tables-listed .ensures) ∙ not-false _ (c .before .before .if2 .left) in
     sound-later limits _ counts lists (c .if3 .taken)
@@ -57,7 +57,7 @@ tables-fresh-requires c κs =
     let lists = sym (c .before .before .before .tables-listed .ensures) ∙ not-false _ (c .before .before .if2 .left) in
     let low = counts-low limits (g .«node_count») (g .«edge_count») (g .stage) counts in
     let s = stateOf g (a .nodes-x .now) (a .nodes-y .now) [] (a .nodes-degree .now) (a .nodes-marked .now) [] []
-    (a .dir-edges-src .now) (a .dir-edges-dst .now) (a .dir-edges-marked .now) (a .nodes-outgoing .now) in
+    (a .dir-edges-src .now) (a .dir-edges-dst .now) (a .dir-edges-marked .now) (a .nodes-outgoing .now) (record { place = []; id = []; next = [] }) in
     record {
       fewNodes = low .0;
       fewEdges = low .1;
@@ -69,7 +69,7 @@ tables-fresh-requires c κs =
     }
 
 returns-4 : tie.Need-returns-4
-returns-4 c z line id =
+returns-4 c z line id t =
     let counts = sym (c .before .before .before .before .before .before .counts-within .ensures) ∙ not-false _ (c .before .before .before .before .before .if1 .left) in
     let lists = sym (c .before .before .before .before .tables-listed .ensures) ∙ not-false _ (c .before .before .before .if2 .left) in
     c .tables-fresh .ensures ∙ sound-early limits _ counts lists (c .before .if3 .left)

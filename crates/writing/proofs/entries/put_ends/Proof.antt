@@ -1,11 +1,12 @@
--- `put_ends` meets its contract: the first two entries lie in the first region, the others in the last.
-use Prim.Native.Nat.{_+_, _*_, _<_}
+-- `put_ends` meets its contract: the first two entries lie in the first region, the others in the second.
+use Prim.Native.Nat.{ℕ, _+_, _*_, _<_, _≤_}
 use native.Mathlib.Omega.{arith}
-use mathlib.Core.Path.{ap, _∙_}
+use mathlib.Core.Path.{_≡_, ap, _∙_}
+use lib.ListN.{take, drop}
 use Rattle.rules.specs.Limits.{limits}
-use Rattle.tables.specs.Regions.{sourcesIn, targetsIn}
+use Rattle.tables.specs.Regions.{sourcesIn, targetsIn, listPlacesIn, linksIn}
 use Rattle.adding.specs.Written.{twoAt}
-use Rattle.writing.proofs.Stores.{front-two, front-two-rest, tail-two, tail-two-rest}
+use Rattle.writing.proofs.Stores.{front-two, front-two-rest, middle-two, tail-two-rest}
 use borrow.Author.Needs.{needs}
 use Rattle.writing.proofs.entries.put_ends.Statement.{statement}
 use Rattle.writing.proofs.entries.put_ends.Tie as tie
@@ -42,9 +43,17 @@ returns c =
     let v = a .v .0 in
     let first = d .put-halves .ensures ∙ ap (λ k. twoAt (a .numbers .now) (2 * k) u v) (d .before .before .wide .ensures) in
     let second = c .before .before .put-halves2 .ensures ∙ (λ i. twoAt (first i) (n + 2 * d .before .before .wide .ensures i) v u) in
-    let low : f + 1 < n = omega (arith, start d .pre) in (
+    let low : f + 1 < n = omega (arith, start d .pre) in
+    let behind : (m : ℕ) → 2 * n ≤ m → drop m (twoAt (twoAt (a .numbers .now) f u v) (n + f) v u) ≡ drop m (a .numbers .now) =
+    λ m h. front-two-rest m (twoAt (a .numbers .now) f u v) (n + f) v u (omega arith) ∙ front-two-rest m (a .numbers .now) f u v (omega arith) in (
       ap (sourcesIn limits) second ∙ tail-two-rest n (twoAt (a .numbers .now) f u v) f v u ∙ front-two n (a .numbers .now) f u v low,
-      ap (targetsIn limits) second ∙ tail-two n (twoAt (a .numbers .now) f u v) f v u ∙ ap (λ t. twoAt t f v u) (front-two-rest n (a .numbers .now) f u v low),
+      (
+        ap (targetsIn limits) second ∙ middle-two n (twoAt (a .numbers .now) f u v) f v u low ∙ ap (λ t. twoAt (take n t) f v u) (front-two-rest n (a .numbers .now) f u v low),
+        (
+          ap (listPlacesIn limits) second ∙ ap (take (limits .edges)) (behind (4 * limits .edges) (omega arith)),
+          ap (linksIn limits) second ∙ behind (5 * limits .edges) (omega arith),
+        ),
+      ),
     )
 
 pub put-ends-spec : {M : Type 1} → statement M

@@ -1,0 +1,4 @@
+-- What the functions of this crate compute, and what they ask of the tables that they are lent.
+pub mod Walks
+pub mod Free
+pub mod Seeking

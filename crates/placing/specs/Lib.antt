@@ -1,0 +1,2 @@
+-- Where a line's id goes.
+pub mod Placing
