@@ -2,3 +2,4 @@
 pub mod Starts
 pub mod Numbering
 pub mod Outcome
+pub mod Tallying

@@ -5,34 +5,51 @@ use native.Mathlib.Nat.{add-zero}
 use mathlib.Core.Path.{_≡_, refl, sym, ap, subst, _∙_}
 use mathlib.Core.Bool.{true}
 use mathlib.Core.List.{List, [], _∷_, _++_, map, map-id, append-nil}
-use lib.ListN.{length, getD, take, drop, length-take, drop-of-length-le}
-use lib.Seq.{take-append-seam, getD-take, getD-drop}
+use lib.ListN.{length, getD, take, drop, length-take, length-map, drop-of-length-le}
+use lib.Seq.{take-append-seam, take-take, getD-take, getD-drop}
 use lib.Ieee.{Float, nan}
 use Rattle.lists.specs.Lists.{In, upto, flatten, over}
-use Rattle.lists.proofs.Members.{in-at}
 use Rattle.rules.specs.Limits.{Limits, Fine}
 use Rattle.rules.specs.Cycles.{halves}
 use Rattle.rules.specs.Split.{minimalRings}
 use Rattle.rules.specs.Sane.{Sane}
 use Rattle.rules.specs.Face.{Ring, ringOf, doubledArea, faceNumber}
 use Rattle.rules.specs.Naming.{namingComparisons}
-use Rattle.rules.specs.State.{State, arrangement, pointOf, nodeKey, keyIn, roomy, sound}
+use Rattle.rules.specs.State.{State, arrangement, pointOf, nodeKey, keyIn, sound}
 use Rattle.rules.specs.Ringing.{ringsOf, ringReplies, sideArea, sideBy}
-use Rattle.rules.proofs.Soundness.{is-roomy, is-sound}
-use Rattle.rules.proofs.Tables.{source-below, sound-sane}
+use Rattle.rules.proofs.Soundness.{is-sound}
+use Rattle.rules.proofs.Tables.{sound-sane}
 use Rattle.rules.proofs.Areas.{exact-areas}
 use Rattle.rules.proofs.Counting.{minimal-few}
 use Rattle.rules.proofs.Claims.{halved, each-at}
 use Rattle.rules.proofs.Replies.{rings-of-halves}
 use Rattle.rules.proofs.NamingSteps.{naming-few}
+use Rattle.rings.specs.Keys.{bitsFrom, keysY, Keyed}
 use Rattle.rings.specs.Listing.{RingRows, Listed, ringAt}
 use Rattle.rings.proofs.Bounds.{side-half, areas-small}
 use Rattle.rings.proofs.Meaning.{area-at, ends-within, rows-within, ring-read, rings-read, sides-exact}
 use Rattle.faces.specs.Listed.{HalfOf}
-use Rattle.faces.specs.Keys.{Startable}
 use Rattle.faces.specs.Numbers.{ringAt as ringFrom, ringsAt, faceNumbers, origins, rowsAt, comparisonsAt, Numberable}
 use Rattle.faces.proofs.Filled.{ring-of-state}
+use Rattle.extracting.specs.Listing.{keysXOf, keysYOf}
 use Rattle.extracting.proofs.Starts.{rings-inside, rings-fit, ring-some, begins-apart}
+
+-- ---- the keys out of the two halves of a list
+
+module _ (row source : List ℕ) (xs ys : List Float) (keys₀ keys : List ℕ) (keyed : Keyed keysY row source xs ys keys₀ keys) (total : ℕ) (all : total ≡ length row) where
+  -- a row made by a function, cut off what it stands over
+  row-cut : (f : ℕ → ℕ) (out : List ℕ) → take total (over (map f row) out) ≡ map f row
+  row-cut f out = ap (λ n. take n (over (map f row) out)) (all ∙ sym (length-map row f)) ∙ take-append-seam (map f row) (drop (length (map f row)) out)
+
+  -- the bits of x
+  first-keys : total ≤ keysY → take total keys ≡ map (bitsFrom source xs) row
+  first-keys h = sym (take-take total keysY keys h) ∙ ap (take total) (keyed .bitsX) ∙ row-cut (bitsFrom source xs) (take keysY keys₀)
+
+  -- the bits of y
+  second-keys : take total (drop keysY keys) ≡ map (bitsFrom source ys) row
+  second-keys = ap (take total) (keyed .bitsY) ∙ row-cut (bitsFrom source ys) (drop keysY keys₀)
+
+-- ---- the lists
 
 -- as many half-edges as twice the edges
 halves-are : (s : State) → halves (arrangement s) ≡ 2 * s .edges
@@ -142,15 +159,7 @@ module _ (l : Limits) (s : State) (sense : sound l s ≡ true) (halves₀ : List
     pub comparisons-replied : comparisonsAt front (rows .first) (rows .size) count (s .source) (s .nodeX) (s .nodeY) ≡ namingComparisons (nodeKey s) (arrangement s) (map (λ q. q .halfEdges) (ringsOf s))
     comparisons-replied = ap (namingComparisons (keyIn (s .nodeX) (s .nodeY)) (origins (s .source))) (rows-are ∙ sym (rings-of-halves s)) ∙ keys-of-state s (map (λ q. q .halfEdges) (ringsOf s))
 
-    module _ (room : roomy l s ≡ true) (fine : Fine l) where
-      -- a half-edge of the list starts at a node
-      startable : (nodes : List Float) → l .nodes ≤ length nodes → Startable front (s .source) nodes
-      startable nodes q k h =
-          let r = is-roomy l s room in
-          let ok = is-sound l s sense in
-          let a : getD front k 0 < 2 * s .edges = low (getD front k 0) (subst (λ z. In (getD front k 0) z) front-is (in-at front k h)) in
-          (omega (arith, r .source, ok .edges), omega (arith, source-below l s ok (getD front k 0) a, ok .nodes))
-
+    module _ (fine : Fine l) (keys₀ keys : List ℕ) (keyed : Keyed keysY (flatten rings) (s .source) (s .nodeX) (s .nodeY) keys₀ keys) (inside : length (flatten rings) ≤ keysY) where
       -- ring i is read out of it
       read : (i : ℕ) → i < length rings → ringAt front (rows .first) (rows .size) i ≡ getD rings i []
       read = ring-read rings (s .source) (s .nodeX) (s .nodeY) (flatten rings) rows₀ front rows count front-listed
@@ -176,19 +185,19 @@ module _ (l : Limits) (s : State) (sense : sound l s ≡ true) (halves₀ : List
           ∙ side-half z
 
       -- the record that `number_faces` asks for
-      pub numberable : Numberable l front (rows .first) (rows .size) count (s .source) (s .nodeX) (s .nodeY) (rows .area)
+      pub numberable : Numberable l front (keysXOf front keys) (keysYOf front keys) (rows .first) (rows .size) count (s .source) (s .nodeX) (s .nodeY) (rows .area)
       numberable =
           let ok = is-sound l s sense in
           let within = rows-within rings (s .source) (s .nodeX) (s .nodeY) halves₀ rows₀ halves rows count listed in
+          let long : length front ≡ length (flatten rings) = ap (λ r. length r) front-is in
           let at : (i : ℕ) → i < count → i < length rings = λ i q. omega (arith, listed .number) in
           record {
             few = omega (arith, listed .number, few, ok .edges);
-            short = omega (arith, ap (λ r. length r) front-is, rings-fit (arrangement s) sane, halves-are s, ok .edges);
             firstRoom = within .inFirst;
             lengthRoom = within .inSize;
             areaRoom = within .inArea;
-            atX = startable (s .nodeX) (is-roomy l s room .nodeX);
-            atY = startable (s .nodeY) (is-roomy l s room .nodeY);
+            bitsX = first-keys (flatten rings) (s .source) (s .nodeX) (s .nodeY) keys₀ keys keyed (length front) long (omega (arith, long)) ∙ ap (map (bitsFrom (s .source) (s .nodeX))) (sym front-is);
+            bitsY = second-keys (flatten rings) (s .source) (s .nodeX) (s .nodeY) keys₀ keys keyed (length front) long ∙ ap (map (bitsFrom (s .source) (s .nodeY))) (sym front-is);
             some = λ i q. some i (at i q);
             within = λ i q. ends-within rings (s .source) (s .nodeX) (s .nodeY) (flatten rings) rows₀ front rows count front-listed i (at i q);
             halves = λ i q.

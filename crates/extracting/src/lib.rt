@@ -1,11 +1,14 @@
-// Ring extraction over grouped stars: the rings are listed with their sides and areas, then their
-// face numbers are written. Carried over from planar_graph.rs.
+// Ring extraction over grouped stars: the rings are listed with their keys, sides and areas, then
+// their face numbers are written. Carried over from planar_graph.rs.
 mod listing;
+mod naming;
 
 pub use listing::RingCount;
 pub use listing::list_rings;
 ghost use Rattle.rules.specs.Limits.{limits};
 ghost use Rattle.extracting.specs.Extraction.{listsOf, Extractable, Extracts};
+use naming::name_rings;
+use rings::KEYS;
 use tables::PlanarGraph;
 
 // What ring extraction answers: the graph in its last stage, how many rings there are, the census
@@ -39,6 +42,7 @@ pub fn extract_grouped(
         (listsOf (now («half_edges» .entry)) (now («ring_first» .entry)) (now («ring_length» .entry)) (now («ring_face» .entry)) (now («ring_side» .entry)) (now («ring_area» .entry)))
         (listsOf (now («half_edges» .exit)) (now («ring_first» .exit)) (now («ring_length» .exit)) (now («ring_face» .exit)) (now («ring_side» .exit)) (now («ring_area» .exit))) r ⌝ }
 {
+    let mut keys = [0u64; KEYS];
     let listed = list_rings(
         graph,
         nodes_x,
@@ -48,6 +52,7 @@ pub fn extract_grouped(
         dir_edges_src,
         dir_edges_marked,
         half_edges,
+        &mut keys,
         ring_first,
         ring_length,
         ring_side,
@@ -56,14 +61,12 @@ pub fn extract_grouped(
     let count = listed.count;
     let census = listed.census;
     let total = 2 * tables::wide(census.edges);
-    let made = faces::number_faces(
+    let made = name_rings(
         &half_edges[..total],
+        &keys,
         ring_first,
         ring_length,
         tables::wide(count),
-        dir_edges_src,
-        nodes_x,
-        nodes_y,
         ring_area,
         ring_face,
     );

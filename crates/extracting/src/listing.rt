@@ -1,4 +1,5 @@
-// The rings of an arrangement, listed with their sides and areas, and its census before splitting.
+// The rings of an arrangement, listed with their keys, sides and areas, and its census before
+// splitting.
 ghost use Rattle.rules.specs.Limits.{limits};
 ghost use Rattle.cycles.specs.Arranged.{Arranged};
 ghost use Rattle.stars.specs.Groups.{InEach};
@@ -24,14 +25,15 @@ pub fn list_rings(
     dir_edges_src: &[u16],
     dir_edges_marked: &[bool],
     half_edges: &mut [u16],
+    keys: &mut [u64],
     ring_first: &mut [u16],
     ring_length: &mut [u16],
     ring_side: &mut [u8],
     ring_area: &mut [f64],
 ) -> RingCount
-    requires { ⌜ (Arranged limits (graph .«node_count») (graph .«edge_count») (now «dir_edges_src») (now «dir_edges_marked») (now offsets) (now grouped)) × (Placed (graph .«node_count») (now «nodes_x») (now «nodes_y»)) × (RingRoom (graph .«edge_count») (now «half_edges») (rowsOf (now «ring_first») (now «ring_length») (now «ring_side») (now «ring_area»))) ⌝ }
-    ensures { λ r. ⌜ InEach (graph .«node_count») (graph .«edge_count») (now («dir_edges_src» .entry)) (now («dir_edges_marked» .entry)) (now (offsets .entry)) (now (grouped .entry)) (λ g. RingsListed g (now («dir_edges_src» .entry)) (now («nodes_x» .entry)) (now («nodes_y» .entry)) (now («half_edges» .entry)) (rowsOf (now («ring_first» .entry)) (now («ring_length» .entry)) (now («ring_side» .entry)) (now («ring_area» .entry)))
-        (now («half_edges» .exit)) (rowsOf (now («ring_first» .exit)) (now («ring_length» .exit)) (now («ring_side» .exit)) (now («ring_area» .exit))) r) ⌝ }
+    requires { ⌜ (Arranged limits (graph .«node_count») (graph .«edge_count») (now «dir_edges_src») (now «dir_edges_marked») (now offsets) (now grouped)) × (Placed (graph .«node_count») (now «nodes_x») (now «nodes_y»)) × (RingRoom (graph .«edge_count») (now «half_edges») (now keys) (rowsOf (now «ring_first») (now «ring_length») (now «ring_side») (now «ring_area»))) ⌝ }
+    ensures { λ r. ⌜ InEach (graph .«node_count») (graph .«edge_count») (now («dir_edges_src» .entry)) (now («dir_edges_marked» .entry)) (now (offsets .entry)) (now (grouped .entry)) (λ g. RingsListed g (now («dir_edges_src» .entry)) (now («nodes_x» .entry)) (now («nodes_y» .entry)) (now («half_edges» .entry)) (now (keys .entry)) (rowsOf (now («ring_first» .entry)) (now («ring_length» .entry)) (now («ring_side» .entry)) (now («ring_area» .entry)))
+        (now («half_edges» .exit)) (now (keys .exit)) (rowsOf (now («ring_first» .exit)) (now («ring_length» .exit)) (now («ring_side» .exit)) (now («ring_area» .exit))) r) ⌝ }
 {
     let mut next = [0u16; MAX_HALF_EDGES];
     let mut labels = [0u16; MAX_HALF_EDGES];
@@ -63,6 +65,7 @@ pub fn list_rings(
         nodes_x,
         nodes_y,
         half_edges,
+        keys,
         ring_first,
         ring_length,
         ring_side,

@@ -5,7 +5,7 @@ use mathlib.Core.List.{List, [], _∷_, map}
 use Prim.Native.Nat.{ℕ, zero, suc, _+_, _≤_, _<_}
 use native.Mathlib.Omega.{arith}
 use lib.ListN.{length, getD, take, drop, length-append, length-drop, length-map, List·getD-append}
-use lib.Seq.{take-append-le, drop-append-le, ext-getD}
+use lib.Seq.{ext-getD}
 use lib.Ieee.{Float, nan}
 use Rattle.lists.specs.Lists.{upto, pick, over, sum}
 use Rattle.lists.proofs.Counts.{by-test}
@@ -21,7 +21,8 @@ use Rattle.rules.specs.Keys.{keyOf}
 use Rattle.rules.specs.Limits.{Limits}
 use Rattle.rules.specs.State.{State, arrangement, pointOf, nodeKey, pointIn, keyIn}
 use Rattle.faces.specs.Listed.{partOf, HalfOf, Listed, listed, ringIn, Stands, AllStand}
-use Rattle.faces.specs.Keys.{bitsFrom, turnOf, stepsOf}
+use Rattle.rings.specs.Keys.{bitsFrom}
+use Rattle.faces.specs.Keys.{turnOf, stepsOf}
 use Rattle.faces.specs.Order.{before, inOrder}
 use Rattle.faces.specs.Numbers.{indexOf, origins, ringAt, ringsAt, faceNumbers, comparisonsAt, Numberable}
 use Rattle.faces.proofs.Rows.{map-at, map-upto-at}
@@ -46,7 +47,7 @@ row-same f F R n e =
     let g : i < n = omega arith in
     map-upto-at f n i 0 g ∙ e i g ∙ ap F (sym (map-upto-at R n i (R 0) g)) ∙ sym (map-at F (map R (upto n)) i (R 0) 0 (omega arith)))
 
--- ---- the lists as the code fills them
+-- ---- the lists as they are given
 
 -- past some entries of a row that was made by a function
 map-drop : (f : ℕ → ℕ) (n : ℕ) (l : List ℕ) → drop n (map f l) ≡ map f (drop n l)
@@ -60,15 +61,9 @@ map-take f zero l = refl
 map-take f (suc n) [] = refl
 map-take f (suc n) (x ∷ l) = ap (λ r. f x ∷ r) (map-take f n l)
 
--- a part of a row written over a table
-part-over : (f : ℕ → ℕ) (l out : List ℕ) (first n : ℕ) → first + n ≤ length l → partOf first n (over (map f l) out) ≡ map f (partOf first n l)
-part-over f l out first n h =
-    let rest : List ℕ = drop (length (map f l)) out in
-    let m : length (map f l) ≡ length l = length-map l f in
-    ap (take n) (drop-append-le first (map f l) rest (omega arith))
-    ∙ take-append-le n (drop first (map f l)) rest (omega (arith, length-drop first (map f l)))
-    ∙ ap (take n) (map-drop f first l)
-    ∙ map-take f n (drop first l)
+-- a part of such a row
+part-map : (f : ℕ → ℕ) (l : List ℕ) (first n : ℕ) → partOf first n (map f l) ≡ map f (partOf first n l)
+part-map f l first n = ap (take n) (map-drop f first l) ∙ map-take f n (drop first l)
 
 -- keys out of two rows
 keys-map : (f g : ℕ → ℕ) (l : List ℕ) → keysOf (map f l) (map g l) ≡ map (λ h. record { x = f h; y = g h }) l
@@ -79,18 +74,14 @@ keys-map f g (h ∷ l) = ap (λ r. record { x = f h; y = g h } ∷ r) (keys-map 
 length-over : (row out : List ℕ) → length row ≤ length out → length (over row out) ≡ length out
 length-over row out h = omega (arith, length-append row (drop (length row) out), length-drop (length row) out)
 
--- the tables as they were given, and the lists of bits as they are written
-module _ (lim : Limits) (halfEdges firsts lengths : List ℕ) (count : ℕ) (source : List ℕ) (X Y areas : List Float)
-    (g : Numberable lim halfEdges firsts lengths count source X Y areas)
-    (xs ys xs₀ ys₀ : List ℕ) (ex : xs ≡ over (map (bitsFrom source X) halfEdges) xs₀) (ey : ys ≡ over (map (bitsFrom source Y) halfEdges) ys₀)
-    (room : length halfEdges ≤ length xs₀) (same : length xs₀ ≡ length ys₀) where
-  -- a key for every entry
-  length-filled : length (keysOf xs ys) ≡ length xs₀
+-- the tables and lists as they were given
+module _ (lim : Limits) (halfEdges xs ys firsts lengths : List ℕ) (count : ℕ) (source : List ℕ) (X Y areas : List Float)
+    (g : Numberable lim halfEdges xs ys firsts lengths count source X Y areas) where
+  -- a key for every half-edge
+  length-filled : length (keysOf xs ys) ≡ length halfEdges
   length-filled =
-      let mx : length (map (bitsFrom source X) halfEdges) ≡ length halfEdges = length-map halfEdges (bitsFrom source X) in
-      let my : length (map (bitsFrom source Y) halfEdges) ≡ length halfEdges = length-map halfEdges (bitsFrom source Y) in
-      let x : length xs ≡ length xs₀ = ap length ex ∙ length-over (map (bitsFrom source X) halfEdges) xs₀ (omega arith) in
-      let y : length ys ≡ length ys₀ = ap length ey ∙ length-over (map (bitsFrom source Y) halfEdges) ys₀ (omega arith) in
+      let x : length xs ≡ length halfEdges = ap length (g .bitsX) ∙ length-map halfEdges (bitsFrom source X) in
+      let y : length ys ≡ length halfEdges = ap length (g .bitsY) ∙ length-map halfEdges (bitsFrom source Y) in
       length-keys xs ys (omega arith) ∙ x
 
   -- a ring's keys are among them
@@ -106,8 +97,8 @@ module _ (lim : Limits) (halfEdges firsts lengths : List ℕ) (count : ℕ) (sou
       let n : ℕ = getD lengths i 0 in
       sym (keys-part a n xs ys)
       ∙ ap₂ keysOf
-      (ap (partOf a n) ex ∙ part-over (bitsFrom source X) halfEdges xs₀ a n (g .within i h))
-      (ap (partOf a n) ey ∙ part-over (bitsFrom source Y) halfEdges ys₀ a n (g .within i h))
+      (ap (partOf a n) (g .bitsX) ∙ part-map (bitsFrom source X) halfEdges a n)
+      (ap (partOf a n) (g .bitsY) ∙ part-map (bitsFrom source Y) halfEdges a n)
       ∙ keys-map (bitsFrom source X) (bitsFrom source Y) (partOf a n halfEdges)
 
   -- the comparisons that the searches make are those of naming the rings

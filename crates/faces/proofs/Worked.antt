@@ -11,8 +11,8 @@ use Rattle.geometry.specs.Coordinate.{value}
 use Rattle.rules.specs.Face.{doubledArea, ringOf, faceNumber}
 use Rattle.rules.specs.Keys.{keyOf}
 use Rattle.rules.specs.Limits.{limits}
+use Rattle.rings.specs.Keys.{bitsFrom}
 use Rattle.faces.specs.Listed.{halfOf, HalfOf}
-use Rattle.faces.specs.Keys.{Startable}
 use Rattle.faces.specs.Numbers.{ringAt, ringsAt, faceNumbers, Numberable}
 
 -- half-edges of (0,0)-(4,0), (4,0)-(0,3), (0,3)-(0,0), ring by ring
@@ -39,6 +39,14 @@ xs = ofInt binary64 (pos 0) ∷ ofInt binary64 (pos 4) ∷ ofInt binary64 (pos 0
 abbrev ys : List Float
 ys = ofInt binary64 (pos 0) ∷ ofInt binary64 (pos 0) ∷ ofInt binary64 (pos 3) ∷ []
 
+-- the bits of x of the node where each half-edge starts, 4.0 or 0.0
+abbrev keysX : List ℕ
+keysX = 0 ∷ 4616189618054758400 ∷ 0 ∷ 4616189618054758400 ∷ 0 ∷ 0 ∷ []
+
+-- those of y, 3.0 or 0.0
+abbrev keysY : List ℕ
+keysY = 0 ∷ 0 ∷ 4613937818241073152 ∷ 0 ∷ 0 ∷ 4613937818241073152 ∷ []
+
 -- the rings' areas, 6 and -6
 abbrev areas : List Float
 areas = halfOf (pos 12) ∷ halfOf (negsuc 11) ∷ []
@@ -49,32 +57,16 @@ two P a b zero h = a
 two P a b (suc zero) h = b
 two P a b (suc (suc i)) h = absurd (omega arith)
 
--- below 6
-six : (P : ℕ → Type 0) → P 0 → P 1 → P 2 → P 3 → P 4 → P 5 → (i : ℕ) → i < 6 → P i
-six P a b c d e f zero h = a
-six P a b c d e f (suc zero) h = b
-six P a b c d e f (suc (suc zero)) h = c
-six P a b c d e f (suc (suc (suc zero))) h = d
-six P a b c d e f (suc (suc (suc (suc zero)))) h = e
-six P a b c d e f (suc (suc (suc (suc (suc zero))))) h = f
-six P a b c d e f (suc (suc (suc (suc (suc (suc i)))))) h = absurd (omega arith)
-
--- each half-edge starts at one of three nodes
-starts : (coordinates : List Float) → length coordinates ≡ 3 → Startable halfEdges source coordinates
-starts coordinates e = six (λ k. (getD halfEdges k 0 < length source) × (getD source (getD halfEdges k 0) 0 < length coordinates))
-    (omega arith, omega arith) (omega arith, omega arith) (omega arith, omega arith) (omega arith, omega arith) (omega arith, omega arith) (omega arith, omega arith)
-
 -- the lists are as numbering asks
-pub worked-numberable : Numberable limits halfEdges firsts lengths 2 source xs ys areas
-unfolding ringAt ringOf doubledArea value ofInt
+pub worked-numberable : Numberable limits halfEdges keysX keysY firsts lengths 2 source xs ys areas
+unfolding ringAt ringOf doubledArea value ofInt bitsFrom
 worked-numberable = record {
   few = omega arith;
-  short = omega arith;
   firstRoom = omega arith;
   lengthRoom = omega arith;
   areaRoom = omega arith;
-  atX = starts xs refl;
-  atY = starts ys refl;
+  bitsX = refl;
+  bitsY = refl;
   some = two (λ i. 0 < getD lengths i 0) (omega arith) (omega arith);
   within = two (λ i. getD firsts i 0 + getD lengths i 0 ≤ length halfEdges) (omega arith) (omega arith);
   halves = two (λ i. HalfOf (getD areas i nan) (ringAt halfEdges firsts lengths source xs ys i .doubled))

@@ -1,10 +1,8 @@
--- Keys in lists: what fills them, and how two rings' keys compare.
+-- Keys in lists: where a ring's least rotation starts, and how two rings' keys compare.
 use Prim.Native.Nat.{ℕ, _+_, _<_, _≤_}
 use mathlib.Core.Bool.{Bool, true, false}
 use mathlib.Core.List.{List}
 use lib.ListN.{length, getD}
-use lib.Ieee.{Float, nan}
-use Rattle.geometry.specs.Coordinate.{canonicalBits}
 use Rattle.rotation.specs.Rotation.{Key, keysBefore, rotated, leastRotation}
 use Rattle.rotation.specs.Steps.{comparisons}
 use Rattle.faces.specs.declared.keys.KeysOrder.{KeysOrder}
@@ -12,16 +10,6 @@ use Rattle.faces.specs.declared.keys.KeysOrder.the-variants.{Less, Equal
 use Rattle.faces.specs.declared.keys.Search.{Search}
 use Rattle.faces.specs.declared.keys.Turned.{Turned}
 use Rattle.faces.specs.Listed.{partOf}
-
--- the bits of a coordinate of the node where half-edge h starts
-unfoldable pub bitsFrom : List ℕ → List Float → ℕ → ℕ
-unfolding canonicalBits
-bitsFrom source coordinates h = canonicalBits (getD coordinates (getD source h 0) nan)
-
--- every half-edge of the list starts at a node that has a coordinate
-abbrev pub Startable : List ℕ → List ℕ → List Float → Type 0
-Startable halfEdges source coordinates = (k : ℕ) → k < length halfEdges
-    → (getD halfEdges k 0 < length source) × (getD source (getD halfEdges k 0) 0 < length coordinates)
 
 -- what the search for the least rotation of keys finds, and the comparisons that it takes
 abbrev pub searchOf : List Key → Search

@@ -12,8 +12,8 @@ use Rattle.rules.specs.Face.{Ring, ringOf, faceNumber}
 use Rattle.rules.specs.Naming.{namingComparisons}
 use Rattle.rules.specs.Limits.{Limits}
 use Rattle.rules.specs.State.{arrangementIn, pointIn, keyIn}
+use Rattle.rings.specs.Keys.{bitsFrom}
 use Rattle.faces.specs.Listed.{partOf, HalfOf}
-use Rattle.faces.specs.Keys.{Startable}
 
 -- the place where x stands first
 abbrev pub indexOf : ℕ → List ℕ → ℕ
@@ -50,16 +50,22 @@ rowsAt halfEdges firsts lengths count = map (λ i. partOf (getD firsts i 0) (get
 abbrev pub comparisonsAt : List ℕ → List ℕ → List ℕ → ℕ → List ℕ → List Float → List Float → ℕ
 comparisonsAt halfEdges firsts lengths count source xs ys = namingComparisons (keyIn xs ys) (origins source) (rowsAt halfEdges firsts lengths count)
 
--- what numbering asks: the lists hold rings, each with its area, and no two begin with the same half-edge
-pub record Numberable (l : Limits) (halfEdges firsts lengths : List ℕ) (count : ℕ) (source : List ℕ) (xs ys areas : List Float) : Type 0 where
+-- the lists hold rings with the keys of the nodes where half-edges start in these tables, each with its area, and no two begin with the same half-edge
+pub record Numberable (l : Limits) (halfEdges xs ys firsts lengths : List ℕ) (count : ℕ) (source : List ℕ) (X Y areas : List Float) : Type 0 where
   pub few : count ≤ 2 * l .edges
-  pub short : length halfEdges ≤ 2 * l .edges
   pub firstRoom : count ≤ length firsts
   pub lengthRoom : count ≤ length lengths
   pub areaRoom : count ≤ length areas
-  pub atX : Startable halfEdges source xs
-  pub atY : Startable halfEdges source ys
+  pub bitsX : xs ≡ map (bitsFrom source X) halfEdges
+  pub bitsY : ys ≡ map (bitsFrom source Y) halfEdges
   pub some : (i : ℕ) → i < count → 0 < getD lengths i 0
   pub within : (i : ℕ) → i < count → getD firsts i 0 + getD lengths i 0 ≤ length halfEdges
-  pub halves : (i : ℕ) → i < count → HalfOf (getD areas i nan) (ringAt halfEdges firsts lengths source xs ys i .doubled)
+  pub halves : (i : ℕ) → i < count → HalfOf (getD areas i nan) (ringAt halfEdges firsts lengths source X Y i .doubled)
   pub apart : (i j : ℕ) → i < count → j < count → getD halfEdges (getD firsts i 0) 0 ≡ getD halfEdges (getD firsts j 0) 0 → i ≡ j
+
+-- what numbering asks: they do so by some tables, which are not read
+pub record Nameable (l : Limits) (halfEdges xs ys firsts lengths : List ℕ) (count : ℕ) (areas : List Float) : Type 0 where
+  pub source : List ℕ
+  pub nodesX : List Float
+  pub nodesY : List Float
+  pub able : Numberable l halfEdges xs ys firsts lengths count source nodesX nodesY areas

@@ -7,7 +7,7 @@ ghost use lib.ListN.{length, getD};
 ghost use Rattle.lists.specs.Lists.{upto, over, sum};
 ghost use Rattle.rotation.specs.Rotation.{keyBefore, keyAt, keysOf};
 ghost use Rattle.faces.specs.Listed.{partOf};
-ghost use Rattle.faces.specs.Keys.{bitsFrom, Startable, searchOf, turnOf, stepsOf, turnedKeys, Turns, keysOrder};
+ghost use Rattle.faces.specs.Keys.{searchOf, turnOf, stepsOf, turnedKeys, Turns, keysOrder};
 use rotation::RotationStart;
 use rotation::lesser;
 use tables::wide;
@@ -25,20 +25,6 @@ pub struct Turned {
     pub first: usize,
     pub size: usize,
     pub turn: usize,
-}
-
-// The bits of one coordinate of the starting node of every half-edge.
-pub fn write_bits(half_edges: &[u16], dir_edges_src: &[u16], coordinates: &[f64], bits: &mut [u64])
-    requires { ⌜ (length (now «half_edges») ≤ length (now bits)) × Startable (now «half_edges») (now «dir_edges_src») (now coordinates) ⌝ }
-    ensures { λ _. ⌜ now (bits .exit) ≡ over (map (bitsFrom (now («dir_edges_src» .entry)) (now (coordinates .entry))) (now («half_edges» .entry))) (now (bits .entry)) ⌝ }
-{
-    let mut k = 0;
-    while k < half_edges.len() {
-        let h = wide(half_edges[k]);
-        let n = wide(dir_edges_src[h]);
-        bits[k] = geometry::canonical_coordinate_bits(coordinates[n]);
-        k += 1;
-    }
 }
 
 // Where the least rotation of a ring's keys starts, and how many comparisons finding it took.

@@ -1,12 +1,12 @@
 // Face numbers.
 ghost use mathlib.Core.Path.{_≡_};
-ghost use mathlib.Core.List.{map};
-ghost use Prim.Native.Nat.{_≤_};
+ghost use mathlib.Core.List.{List, map};
+ghost use Prim.Native.Nat.{ℕ, _≤_};
 ghost use lib.ListN.{length, take};
+ghost use lib.Ieee.{Float};
 ghost use Rattle.lists.specs.Lists.{upto, over};
 ghost use Rattle.rules.specs.Limits.{limits};
-ghost use Rattle.faces.specs.Numbers.{indexOf, Once, ringsAt, faceNumbers, comparisonsAt, Numberable};
-use crate::keys::write_bits;
+ghost use Rattle.faces.specs.Numbers.{indexOf, Once, ringsAt, faceNumbers, comparisonsAt, Numberable, Nameable};
 use crate::keys::write_turns;
 use crate::order::sort_rings;
 use tables::MAX_HALF_EDGES;
@@ -25,35 +25,32 @@ fn write_places(order: &[u16], count: usize, faces: &mut [u16])
     }
 }
 
-// The face number of each ring, by rings as they stand in lists: half_edges ring by ring, and for
-// each ring its first place there, its length and its area. The answer is how many comparisons the
-// searches for the least rotations made.
+// The face number of each ring, by rings as they stand in lists: half_edges and their keys ring by
+// ring, and for each ring its first place there, its length and its area. The answer is how many
+// comparisons the searches for the least rotations made.
 pub fn number_faces(
     half_edges: &[u16],
+    xs: &[u64],
+    ys: &[u64],
     firsts: &[u16],
     lengths: &[u16],
     count: usize,
-    dir_edges_src: &[u16],
-    nodes_x: &[f64],
-    nodes_y: &[f64],
     areas: &[f64],
     faces: &mut [u16],
 ) -> usize
-    requires { ⌜ Numberable limits (now «half_edges») (now firsts) (now lengths) count (now «dir_edges_src») (now «nodes_x») (now «nodes_y») (now areas) × (count ≤ length (now faces)) ⌝ }
-    ensures faces { λ _. ⌜ now (faces .exit) ≡ over (faceNumbers (ringsAt (now («half_edges» .entry)) (now (firsts .entry)) (now (lengths .entry)) count (now («dir_edges_src» .entry)) (now («nodes_x» .entry)) (now («nodes_y» .entry)))) (now (faces .entry)) ⌝ }
-    ensures made { λ r. ⌜ r ≡ comparisonsAt (now («half_edges» .entry)) (now (firsts .entry)) (now (lengths .entry)) count (now («dir_edges_src» .entry)) (now («nodes_x» .entry)) (now («nodes_y» .entry)) ⌝ }
+    requires { ⌜ Nameable limits (now «half_edges») (now xs) (now ys) (now firsts) (now lengths) count (now areas) × (count ≤ length (now faces)) ⌝ }
+    ensures faces { λ _. ⌜ ((source : List ℕ) (X Y : List Float) → Numberable limits (now («half_edges» .entry)) (now (xs .entry)) (now (ys .entry)) (now (firsts .entry)) (now (lengths .entry)) count source X Y (now (areas .entry))
+        → now (faces .exit) ≡ over (faceNumbers (ringsAt (now («half_edges» .entry)) (now (firsts .entry)) (now (lengths .entry)) count source X Y)) (now (faces .entry))) ⌝ }
+    ensures made { λ r. ⌜ ((source : List ℕ) (X Y : List Float) → Numberable limits (now («half_edges» .entry)) (now (xs .entry)) (now (ys .entry)) (now (firsts .entry)) (now (lengths .entry)) count source X Y (now (areas .entry))
+        → r ≡ comparisonsAt (now («half_edges» .entry)) (now (firsts .entry)) (now (lengths .entry)) count source X Y) ⌝ }
 {
-    let mut xs = [0u64; MAX_HALF_EDGES];
-    let mut ys = [0u64; MAX_HALF_EDGES];
-    write_bits(half_edges, dir_edges_src, nodes_x, &mut xs);
-    write_bits(half_edges, dir_edges_src, nodes_y, &mut ys);
     let mut turns = [0u16; MAX_HALF_EDGES];
-    let made = write_turns(&xs, &ys, firsts, lengths, count, &mut turns);
+    let made = write_turns(xs, ys, firsts, lengths, count, &mut turns);
     let mut order = [0u16; MAX_HALF_EDGES];
     sort_rings(
         half_edges,
-        &xs,
-        &ys,
+        xs,
+        ys,
         firsts,
         lengths,
         &turns,

@@ -15,8 +15,10 @@ use Rattle.rules.proofs.Histories.{demand-3-sound}
 use Rattle.rules.proofs.Filing.{demand-3-files}
 use Rattle.rules.proofs.NamingSteps.{replied-few}
 use Rattle.rules.specs.Naming.{FewComparisons}
+use Rattle.extracting.specs.Tallying.{Adding, TalliesAdd}
+use Rattle.extracting.proofs.Tallying.{tallies-add}
 use Rattle.create_entry.specs.Clause.{Creates}
-use Rattle.planar_graph.specs.Runs.{Step, Run, ends, sketchFrom, Demand3, Demand3Sound, NamingIsShort}
+use Rattle.planar_graph.specs.Runs.{Step, Run, ends, sketchFrom, Demand3, Demand3Sound, NamingIsShort, TalliesAddUp}
 use Rattle.planar_graph.proofs.Acts.{actsOf, run-acts, run-given, created-new}
 
 -- what the claim says after a world of tables and sketch
@@ -59,3 +61,10 @@ unfolding NamingIsShort
 naming-is-short s last out written r e =
     subst (λ lists. FewComparisons (ringsFrom lists (upto (r .count))) (r .comparisons)) (ap (λ z. z .lists) (sym e))
     (replied-few limits s out r (ap (λ z. z .reply) (sym e)))
+
+-- ---- what the walks counted
+
+pub tallies-add-up : TalliesAddUp
+unfolding TalliesAddUp TalliesAdd
+tallies-add-up s last out written r e =
+    subst (λ lists. Adding lists r) (ap (λ z. z .lists) (sym e)) (tallies-add limits s out r (ap (λ z. z .reply) (sym e)))

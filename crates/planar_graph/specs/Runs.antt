@@ -22,6 +22,7 @@ use Rattle.file_entry.specs.Clause.{AddsRecords}
 use Rattle.sort_entry.specs.Clause.{Sorts}
 use Rattle.prune_entry.specs.Clause.{Prunes}
 use Rattle.cut_entry.specs.Clause.{Cuts}
+use Rattle.extracting.specs.Tallying.{Adding}
 use Rattle.ring_entry.specs.Clause.{Extracts}
 use Rattle.reset_entry.specs.Clause.{Resets}
 
@@ -106,3 +107,8 @@ unfoldable pub NamingIsShort : Type 0
 NamingIsShort =
     (s last : State) (out written : RingLists) (r : Ringing) → Extracts s out (success r) last written
     → FewComparisons (ringsFrom written (upto (r .count))) (r .comparisons)
+
+-- The tallies of the walks that list the rings add up to the half-edges that are replied (request §3).
+unfoldable pub TalliesAddUp : Type 0
+TalliesAddUp =
+    (s last : State) (out written : RingLists) (r : Ringing) → Extracts s out (success r) last written → Adding written r

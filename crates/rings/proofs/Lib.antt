@@ -1,5 +1,6 @@
--- Laws of walking, summing and sides over the tables.
+-- Laws of walking, keys, summing and sides over the tables.
 pub mod Entries
+pub mod Keying
 pub mod Walking
 pub mod Rows
 pub mod Bounds

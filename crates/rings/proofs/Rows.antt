@@ -24,12 +24,14 @@ use Rattle.rules.proofs.Sweep.{Swept, sweep, sweep-new, sweep-inactive, sweep-h
 use Rattle.rules.proofs.Permuting.{permutes-same, cycles-agree}
 use Rattle.rules.proofs.Rings.{minimal-rings-are, split-permutes}
 use Rattle.stars.specs.Groups.{unmarked}
+use Rattle.rings.specs.Keys.{keysY, keysPut, Keyed}
 use Rattle.rings.specs.Tallies.{tallyOf}
 use Rattle.rings.specs.Sides.{numberIn, shownIn}
 use Rattle.splitting.specs.Splits.{entryOf}
 use Rattle.rings.specs.Listing.{tableRings, firstPlaces, sizeOf, RingRows, rowPut, RowsRoom, stampedAt, WalkedRing, Listed}
 use Rattle.rings.specs.declared.tally.Tally.{Tally}
 use Rattle.rings.proofs.Entries.{over-set, over-sets}
+use Rattle.rings.proofs.Keying.{keys-more, keys-stand}
 
 -- ---- lists
 
@@ -78,20 +80,21 @@ over-ring F d rs r out i v e h q =
 
 -- ---- the loop
 
-module _ (edges : ℕ) (next source : List ℕ) (marks : List Bool) (xs ys : List Float) (seen₀ : List Bool) (halves₀ : List ℕ) (rows₀ : RingRows) where
+module _ (edges : ℕ) (next source : List ℕ) (marks : List Bool) (xs ys : List Float) (seen₀ : List Bool) (halves₀ keys₀ : List ℕ) (rows₀ : RingRows) where
   -- what the procedure has after k half-edges
   abbrev pub after : ℕ → Swept
   after k = sweep (entryOf next) (2 * edges) (unmarked marks) k
 
   -- what holds after k half-edges
-  pub record Held (seen : List Bool) (halves : List ℕ) (rows : RingRows) (count at k : ℕ) : Type 0 where
+  pub record Held (seen : List Bool) (halves keys : List ℕ) (rows : RingRows) (count at k : ℕ) : Type 0 where
     pub inside : k ≤ 2 * edges
     pub marked : seen ≡ after k .seen ++ drop (2 * edges) seen₀
     pub listed : Listed (after k .found) source xs ys halves₀ rows₀ halves rows count
+    pub keyed : keys ≡ keysPut keysY source xs ys keys₀ 0 (flatten (after k .found))
     pub place : at ≡ length (flatten (after k .found))
 
   -- at first nothing is seen or listed
-  pub held-first : 2 * edges ≤ length seen₀ → seen₀ ≡ replicate (length seen₀) false → Held seen₀ halves₀ rows₀ 0 0 0
+  pub held-first : 2 * edges ≤ length seen₀ → seen₀ ≡ replicate (length seen₀) false → Held seen₀ halves₀ keys₀ rows₀ 0 0 0
   held-first l e =
       let n : ℕ = 2 * edges in
       let m : n + (length seen₀ - n) ≡ length seen₀ = omega arith in
@@ -102,6 +105,7 @@ module _ (edges : ℕ) (next source : List ℕ) (marks : List Bool) (xs ys : Lis
         marked = front ∙ ap (λ r. replicate n false ++ r)
             (sym (ap (drop n) front ∙ drop-at (replicate n false) (replicate (length seen₀ - n) false) n (length-replicate n false)));
         listed = record { halves = refl; places = refl; sizes = refl; sides = refl; areas = refl; number = refl };
+        keyed = refl;
         place = refl;
       }
 
@@ -111,9 +115,9 @@ module _ (edges : ℕ) (next source : List ℕ) (marks : List Bool) (xs ys : Lis
     size-seen k h = sweep-done (entryOf next) (2 * edges) (unmarked marks) t k h .size
 
     -- whether k was seen is the procedure's answer
-    held-at : (seen : List Bool) (halves : List ℕ) (rows : RingRows) (count at k : ℕ) → k < 2 * edges → Held seen halves rows count at k
+    held-at : (seen : List Bool) (halves keys : List ℕ) (rows : RingRows) (count at k : ℕ) → k < 2 * edges → Held seen halves keys rows count at k
         → getD seen k false ≡ getD (after k .seen) k false
-    held-at seen halves rows count at k h r =
+    held-at seen halves keys rows count at k h r =
         ap (λ l. getD l k false) (r .marked) ∙ List·getD-append (after k .seen) (drop (2 * edges) seen₀) false k (omega (arith, size-seen k (omega arith)))
 
     -- the rings found have no more half-edges than there are
@@ -139,15 +143,15 @@ module _ (edges : ℕ) (next source : List ℕ) (marks : List Bool) (xs ys : Lis
         rw (sweep-done f n on t k h .found) (omega (arith, length-map (below (isStart f n on) k) (cycle f n), below-le (isStart f n on) k))
 
     -- so the count is small too
-    pub held-few : (seen : List Bool) (halves : List ℕ) (rows : RingRows) (count at k : ℕ) → Held seen halves rows count at k → count ≤ k
-    held-few seen halves rows count at k r = omega (arith, r .listed .number, found-few k (r .inside))
+    pub held-few : (seen : List Bool) (halves keys : List ℕ) (rows : RingRows) (count at k : ℕ) → Held seen halves keys rows count at k → count ≤ k
+    held-few seen halves keys rows count at k r = omega (arith, r .listed .number, found-few k (r .inside))
 
-    module _ (seen : List Bool) (halves : List ℕ) (rows : RingRows) (count at k : ℕ) (h : k < 2 * edges) (r : Held seen halves rows count at k) where
+    module _ (seen : List Bool) (halves keys : List ℕ) (rows : RingRows) (count at k : ℕ) (h : k < 2 * edges) (r : Held seen halves keys rows count at k) where
       -- a half-edge that was not seen: its ring is found
       module _ (a : unmarked marks k ≡ true) (e : getD seen k false ≡ false) where
         -- the procedure finds it too
         found-new : after (suc k) ≡ record { found = after k .found ++ (cycle (entryOf next) (2 * edges) k ∷ []); seen = stamp (entryOf next) true (2 * edges) k k (after k .seen) }
-        found-new = sweep-new (entryOf next) (2 * edges) (unmarked marks) k a (sym (held-at seen halves rows count at k h r) ∙ e)
+        found-new = sweep-new (entryOf next) (2 * edges) (unmarked marks) k a (sym (held-at seen halves keys rows count at k h r) ∙ e)
 
         -- there is room for it
         pub held-room : at + length (cycle (entryOf next) (2 * edges) k) ≤ 2 * edges
@@ -164,9 +168,9 @@ module _ (edges : ℕ) (next source : List ℕ) (marks : List Bool) (xs ys : Lis
 
         -- it is listed behind the others
         pub held-new : 2 * edges ≤ length halves₀ → RowsRoom (2 * edges) rows₀
-            → (seen′ : List Bool) (halves′ : List ℕ) (rows′ : RingRows) (tally : Tally) (count′ end : ℕ) → WalkedRing (entryOf next) (2 * edges) k at source xs ys seen halves seen′ halves′ tally
-            → rows′ ≡ rowPut count at tally rows → count′ ≡ count + 1 → end ≡ at + tally .count → Held seen′ halves′ rows′ count′ end (k + 1)
-        held-new inHalves inRows seen′ halves′ rows′ tally count′ end w p c q =
+            → (seen′ : List Bool) (halves′ keys′ : List ℕ) (rows′ : RingRows) (tally : Tally) (count′ end : ℕ) → WalkedRing (entryOf next) (2 * edges) k at source xs ys seen halves keys seen′ halves′ keys′ tally
+            → rows′ ≡ rowPut count at tally rows → count′ ≡ count + 1 → end ≡ at + tally .count → Held seen′ halves′ keys′ rows′ count′ end (k + 1)
+        held-new inHalves inRows seen′ halves′ keys′ rows′ tally count′ end w p c q =
             let f = entryOf next in
             let n : ℕ = 2 * edges in
             let ring = cycle f n k in
@@ -196,13 +200,16 @@ module _ (edges : ℕ) (next source : List ℕ) (marks : List Bool) (xs ys : Lis
                     ∙ over-ring (shownIn source xs ys) nan rs ring (rows₀ .area) count (shownIn source xs ys ring) (o .number) (omega (arith, inRows .inArea)) refl;
                 number = omega (arith, c, o .number, length-append rs (ring ∷ []));
               });
+              keyed = rw (add-one k, found-new) (w .keyed
+                  ∙ ap₂ (λ y z. keysPut keysY source xs ys y z ring) (r .keyed) (r .place ∙ sym (zero-add (length (flatten rs))))
+                  ∙ keys-more keysY source xs ys keys₀ 0 (flatten rs) ring ∙ ap (keysPut keysY source xs ys keys₀ 0) (sym (flatten-more rs ring)));
               place = rw (add-one k, found-new) (omega (arith, long, r .place, ap length (flatten-more rs ring), length-append (flatten rs) ring));
             }
 
       -- nothing changes
-      held-same : (seen′ : List Bool) (halves′ : List ℕ) (rows′ : RingRows) (count′ at′ : ℕ) → after (suc k) ≡ after k
-          → seen′ ≡ seen → halves′ ≡ halves → rows′ ≡ rows → count′ ≡ count → at′ ≡ at → Held seen′ halves′ rows′ count′ at′ (k + 1)
-      held-same seen′ halves′ rows′ count′ at′ s e₁ e₂ e₃ e₄ e₅ =
+      held-same : (seen′ : List Bool) (halves′ keys′ : List ℕ) (rows′ : RingRows) (count′ at′ : ℕ) → after (suc k) ≡ after k
+          → seen′ ≡ seen → halves′ ≡ halves → keys′ ≡ keys → rows′ ≡ rows → count′ ≡ count → at′ ≡ at → Held seen′ halves′ keys′ rows′ count′ at′ (k + 1)
+      held-same seen′ halves′ keys′ rows′ count′ at′ s e₁ e₂ e₆ e₃ e₄ e₅ =
           let o = r .listed in
           record {
             inside = omega arith;
@@ -215,24 +222,35 @@ module _ (edges : ℕ) (next source : List ℕ) (marks : List Bool) (xs ys : Lis
               areas = ap (λ z. z .area) e₃ ∙ o .areas;
               number = e₄ ∙ o .number;
             });
+            keyed = rw (add-one k, s) (e₆ ∙ r .keyed);
             place = rw (add-one k, s) (e₅ ∙ r .place);
           }
 
       -- a marked half-edge begins no ring
-      pub held-marked : (seen′ : List Bool) (halves′ : List ℕ) (rows′ : RingRows) (count′ at′ : ℕ) → unmarked marks k ≡ false
-          → seen′ ≡ seen → halves′ ≡ halves → rows′ ≡ rows → count′ ≡ count → at′ ≡ at → Held seen′ halves′ rows′ count′ at′ (k + 1)
-      held-marked seen′ halves′ rows′ count′ at′ a = held-same seen′ halves′ rows′ count′ at′ (sweep-inactive (entryOf next) (2 * edges) (unmarked marks) k a)
+      pub held-marked : (seen′ : List Bool) (halves′ keys′ : List ℕ) (rows′ : RingRows) (count′ at′ : ℕ) → unmarked marks k ≡ false
+          → seen′ ≡ seen → halves′ ≡ halves → keys′ ≡ keys → rows′ ≡ rows → count′ ≡ count → at′ ≡ at → Held seen′ halves′ keys′ rows′ count′ at′ (k + 1)
+      held-marked seen′ halves′ keys′ rows′ count′ at′ a = held-same seen′ halves′ keys′ rows′ count′ at′ (sweep-inactive (entryOf next) (2 * edges) (unmarked marks) k a)
 
       -- nor does one that was seen
-      pub held-has : (seen′ : List Bool) (halves′ : List ℕ) (rows′ : RingRows) (count′ at′ : ℕ) → unmarked marks k ≡ true → getD seen k false ≡ true
-          → seen′ ≡ seen → halves′ ≡ halves → rows′ ≡ rows → count′ ≡ count → at′ ≡ at → Held seen′ halves′ rows′ count′ at′ (k + 1)
-      held-has seen′ halves′ rows′ count′ at′ a e =
-          held-same seen′ halves′ rows′ count′ at′ (sweep-has (entryOf next) (2 * edges) (unmarked marks) k a (sym (held-at seen halves rows count at k h r) ∙ e))
+      pub held-has : (seen′ : List Bool) (halves′ keys′ : List ℕ) (rows′ : RingRows) (count′ at′ : ℕ) → unmarked marks k ≡ true → getD seen k false ≡ true
+          → seen′ ≡ seen → halves′ ≡ halves → keys′ ≡ keys → rows′ ≡ rows → count′ ≡ count → at′ ≡ at → Held seen′ halves′ keys′ rows′ count′ at′ (k + 1)
+      held-has seen′ halves′ keys′ rows′ count′ at′ a e =
+          held-same seen′ halves′ keys′ rows′ count′ at′ (sweep-has (entryOf next) (2 * edges) (unmarked marks) k a (sym (held-at seen halves keys rows count at k h r) ∙ e))
 
-    -- at the end the rings are listed
-    pub held-all : (seen : List Bool) (halves : List ℕ) (rows : RingRows) (count at k : ℕ) → k ≡ 2 * edges → Held seen halves rows count at k
+    -- at the end the keys of the rings stand in the list
+    pub held-keys : 2 * edges ≤ keysY → keysY + 2 * edges ≤ length keys₀ → (seen : List Bool) (halves keys : List ℕ) (rows : RingRows) (count at k : ℕ) → k ≡ 2 * edges → Held seen halves keys rows count at k
+        → Keyed keysY (flatten (tableRings edges next marks)) source xs ys keys₀ keys
+    held-keys few room seen halves keys rows count at k e r =
+        let all : after k .found ≡ tableRings edges next marks = ap (λ i. after i .found) e ∙ sweep-cycles (entryOf next) (2 * edges) (unmarked marks) t in
+        let total : length (flatten (tableRings edges next marks)) ≤ 2 * edges = subst (λ rs. length (flatten rs) ≤ 2 * edges) all (found-total k (r .inside)) in
+        subst (Keyed keysY (flatten (tableRings edges next marks)) source xs ys keys₀)
+        (sym (r .keyed ∙ ap (λ rs. keysPut keysY source xs ys keys₀ 0 (flatten rs)) all))
+        (keys-stand keysY source xs ys keys₀ (flatten (tableRings edges next marks)) (omega arith) (omega arith))
+
+    -- and the rings are listed
+    pub held-all : (seen : List Bool) (halves keys : List ℕ) (rows : RingRows) (count at k : ℕ) → k ≡ 2 * edges → Held seen halves keys rows count at k
         → Listed (tableRings edges next marks) source xs ys halves₀ rows₀ halves rows count
-    held-all seen halves rows count at k e r =
+    held-all seen halves keys rows count at k e r =
         let all : after k .found ≡ tableRings edges next marks = ap (λ i. after i .found) e ∙ sweep-cycles (entryOf next) (2 * edges) (unmarked marks) t in
         subst (λ rs. Listed rs source xs ys halves₀ rows₀ halves rows count) all (r .listed)
 

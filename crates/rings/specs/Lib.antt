@@ -1,4 +1,5 @@
--- What walking, tallies and the sides of rings ask and leave, over the tables.
+-- What walking, keys, tallies and the sides of rings ask and leave, over the tables.
+pub mod Keys
 pub mod Tallies
 pub mod Sides
 pub mod Listing

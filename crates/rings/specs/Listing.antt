@@ -14,6 +14,7 @@ use Rattle.rules.specs.Limits.{Limits}
 use Rattle.rules.specs.Ringing.{sideNumber, sideArea}
 use Rattle.stars.specs.Groups.{unmarked}
 use Rattle.splitting.specs.Splits.{entryOf}
+use Rattle.rings.specs.Keys.{keysY, keysPut}
 use Rattle.rings.specs.Tallies.{tallyOf, Sited, Takable}
 use Rattle.rings.specs.Sides.{sideOf, signSide, numberIn, shownIn}
 use Rattle.rings.specs.declared.tally.Tally.{Tally}
@@ -57,8 +58,8 @@ rowPut i at t rows =
       area = set (rows .area) i (sideArea side);
     }
 
--- what a walk from `start` asks: the table permutes the active half-edges below some count, `start` is one of them, there is room for its ring, and half-edges start at nodes
-pub record Walkable (next source : List ℕ) (xs ys : List Float) (seen : List Bool) (halfEdges : List ℕ) (start at : ℕ) : Type 0 where
+-- what a walk from `start` asks: the table permutes the active half-edges below some count, `start` is one of them, there is room for its ring and its keys, and half-edges start at nodes
+pub record Walkable (next source : List ℕ) (xs ys : List Float) (seen : List Bool) (halfEdges keys : List ℕ) (start at : ℕ) : Type 0 where
   pub count : ℕ
   pub active : ℕ → Bool
   pub permutes : Permutes (entryOf next) count active
@@ -66,6 +67,7 @@ pub record Walkable (next source : List ℕ) (xs ys : List Float) (seen : List B
   pub inNext : count ≤ length next
   pub inSeen : count ≤ length seen
   pub room : at + length (cycle (entryOf next) count start) ≤ length halfEdges
+  pub keyRoom : keysY + (at + length (cycle (entryOf next) count start)) ≤ length keys
   pub small : at + length (cycle (entryOf next) count start) ≤ 65535
   pub takable : (h : ℕ) → h < count → Takable source xs ys h
 
@@ -74,10 +76,11 @@ abbrev pub stampedAt : List ℕ → Bool → List Bool → List Bool
 stampedAt [] a seen = seen
 stampedAt (h ∷ hs) a seen = stampedAt hs a (set seen h a)
 
--- what it leaves: the ring stands from `at` on, its half-edges are seen, and the answer is its tally
-pub record WalkedRing (f : ℕ → ℕ) (n start at : ℕ) (source : List ℕ) (xs ys : List Float) (seen₀ : List Bool) (halfEdges₀ : List ℕ) (seen : List Bool) (halfEdges : List ℕ) (tally : Tally) : Type 0 where
+-- what it leaves: the ring and its keys stand from `at` on, its half-edges are seen, and the answer is its tally
+pub record WalkedRing (f : ℕ → ℕ) (n start at : ℕ) (source : List ℕ) (xs ys : List Float) (seen₀ : List Bool) (halfEdges₀ keys₀ : List ℕ) (seen : List Bool) (halfEdges keys : List ℕ) (tally : Tally) : Type 0 where
   pub marks : seen ≡ stampedAt (cycle f n start) true seen₀
   pub lists : halfEdges ≡ sets halfEdges₀ at (cycle f n start)
+  pub keyed : keys ≡ keysPut keysY source xs ys keys₀ at (cycle f n start)
   pub tallied : tally ≡ tallyOf source xs ys (cycle f n start)
 
 -- nothing is seen at first, of at least n
@@ -92,13 +95,14 @@ pub record RowsRoom (n : ℕ) (rows : RingRows) : Type 0 where
   pub inArea : n ≤ length (rows .area)
 
 -- what listing the rings asks: the table permutes the active half-edges, these start at nodes, and tables and lists are long enough
-pub record Listable (l : Limits) (edges : ℕ) (next source : List ℕ) (marks : List Bool) (xs ys : List Float) (halfEdges : List ℕ) (rows : RingRows) : Type 0 where
+pub record Listable (l : Limits) (edges : ℕ) (next source : List ℕ) (marks : List Bool) (xs ys : List Float) (halfEdges keys : List ℕ) (rows : RingRows) : Type 0 where
   pub permutes : Permutes (entryOf next) (2 * edges) (unmarked marks)
   pub few : edges ≤ l .edges
   pub sited : Sited edges source xs ys
   pub inNext : 2 * edges ≤ length next
   pub inMarks : 2 * edges ≤ length marks
   pub inHalfEdges : 2 * edges ≤ length halfEdges
+  pub inKeys : keysY + 2 * edges ≤ length keys
   pub inRows : RowsRoom (2 * edges) rows
 
 -- what it leaves: the half-edges ring by ring, and of each ring its first place, its length, its side and its area

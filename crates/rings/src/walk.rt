@@ -1,11 +1,14 @@
 // The rings: walks along the successors, from the lowest half-edge of each. One walk around a ring
-// lists it and carries its tally, so that its length, its side and its area are known where it ends.
+// lists it, writes its keys and carries its tally, so that its length, its side and its area are
+// known where it ends and its node is read once for each half-edge.
 ghost use mathlib.Core.Path.{_≡_};
 ghost use mathlib.Core.Bool.{Bool};
 ghost use Prim.Native.Nat.{ℕ, _+_, _*_};
 ghost use Rattle.rules.specs.Limits.{limits};
 ghost use Rattle.rules.specs.Sane.{Live, Permutes};
 ghost use Rattle.splitting.specs.Splits.{entryOf};
+ghost use Rattle.lists.specs.Lists.{flatten};
+ghost use Rattle.rings.specs.Keys.{keysY, Keyed};
 ghost use Rattle.rings.specs.Listing.{tableRings, rowsOf, rowPut, RowsRoom, Walkable, WalkedRing, Unseen, Listable, Listed};
 use super::side::side_area;
 use super::side::side_number;
@@ -16,7 +19,7 @@ use tables::DirEdgeId;
 use tables::MAX_HALF_EDGES;
 use tables::wide;
 
-// Lists the ring of `start` from place `at` on and marks it as seen; returns its tally.
+// Lists the ring of `start` and its keys from place `at` on and marks it as seen; returns its tally.
 fn walk_ring(
     start: DirEdgeId,
     next: &[u16],
@@ -25,18 +28,20 @@ fn walk_ring(
     nodes_y: &[f64],
     seen: &mut [bool],
     half_edges: &mut [u16],
+    keys: &mut [u64],
     at: u16,
 ) -> Tally
-    requires { ⌜ Walkable (now next) (now «dir_edges_src») (now «nodes_x») (now «nodes_y») (now seen) (now «half_edges») (start .0) at ⌝ }
+    requires { ⌜ Walkable (now next) (now «dir_edges_src») (now «nodes_x») (now «nodes_y») (now seen) (now «half_edges») (now keys) (start .0) at ⌝ }
     ensures { λ r. ⌜ ((n : ℕ) (active : ℕ → Bool) → Permutes (entryOf (now (next .entry))) n active → Live n active (start .0)
-        → WalkedRing (entryOf (now (next .entry))) n (start .0) at (now («dir_edges_src» .entry)) (now («nodes_x» .entry)) (now («nodes_y» .entry)) (now (seen .entry)) (now («half_edges» .entry)) (now (seen .exit)) (now («half_edges» .exit)) r) ⌝ }
+        → WalkedRing (entryOf (now (next .entry))) n (start .0) at (now («dir_edges_src» .entry)) (now («nodes_x» .entry)) (now («nodes_y» .entry)) (now (seen .entry)) (now («half_edges» .entry)) (now (keys .entry)) (now (seen .exit)) (now («half_edges» .exit)) (now (keys .exit)) r) ⌝ }
 {
     let mut tally = Tally { count: 0, sum: 0.0 };
     let mut cur = start.0;
     loop {
         seen[wide(cur)] = true;
-        half_edges[wide(at + tally.count)] = cur;
-        tally = tally.take(DirEdgeId(cur), dir_edges_src, nodes_x, nodes_y);
+        let place = wide(at + tally.count);
+        half_edges[place] = cur;
+        tally = tally.take(DirEdgeId(cur), dir_edges_src, nodes_x, nodes_y, place, keys);
         cur = next[wide(cur)];
         if cur == start.0 {
             break;
@@ -66,7 +71,8 @@ fn write_row(
     ring_area[ring] = side_area(side);
 }
 
-// Lists the rings by lowest half-edge, each beginning with it; returns how many there are.
+// Lists the rings by lowest half-edge, each beginning with it, with their keys; returns how many
+// there are.
 fn walk_unseen(
     edges: u16,
     next: &[u16],
@@ -76,15 +82,17 @@ fn walk_unseen(
     nodes_y: &[f64],
     seen: &mut [bool],
     half_edges: &mut [u16],
+    keys: &mut [u64],
     ring_first: &mut [u16],
     ring_length: &mut [u16],
     ring_side: &mut [u8],
     ring_area: &mut [f64],
 ) -> u16
-    requires { ⌜ Listable limits edges (now next) (now «dir_edges_src») (now «dir_edges_marked») (now «nodes_x») (now «nodes_y») (now «half_edges») (rowsOf (now «ring_first») (now «ring_length») (now «ring_side») (now «ring_area»)) ⌝ }
+    requires { ⌜ Listable limits edges (now next) (now «dir_edges_src») (now «dir_edges_marked») (now «nodes_x») (now «nodes_y») (now «half_edges») (now keys) (rowsOf (now «ring_first») (now «ring_length») (now «ring_side») (now «ring_area»)) ⌝ }
     requires { ⌜ Unseen (2 * edges) (now seen) ⌝ }
-    ensures { λ r. ⌜ Listed (tableRings edges (now (next .entry)) (now («dir_edges_marked» .entry))) (now («dir_edges_src» .entry)) (now («nodes_x» .entry)) (now («nodes_y» .entry)) (now («half_edges» .entry)) (rowsOf (now («ring_first» .entry)) (now («ring_length» .entry)) (now («ring_side» .entry)) (now («ring_area» .entry)))
+    ensures rings { λ r. ⌜ Listed (tableRings edges (now (next .entry)) (now («dir_edges_marked» .entry))) (now («dir_edges_src» .entry)) (now («nodes_x» .entry)) (now («nodes_y» .entry)) (now («half_edges» .entry)) (rowsOf (now («ring_first» .entry)) (now («ring_length» .entry)) (now («ring_side» .entry)) (now («ring_area» .entry)))
         (now («half_edges» .exit)) (rowsOf (now («ring_first» .exit)) (now («ring_length» .exit)) (now («ring_side» .exit)) (now («ring_area» .exit))) r ⌝ }
+    ensures keys { λ _. ⌜ Keyed keysY (flatten (tableRings edges (now (next .entry)) (now («dir_edges_marked» .entry)))) (now («dir_edges_src» .entry)) (now («nodes_x» .entry)) (now («nodes_y» .entry)) (now (keys .entry)) (now (keys .exit)) ⌝ }
 {
     let mut count: u16 = 0;
     let mut at: u16 = 0;
@@ -101,6 +109,7 @@ fn walk_unseen(
                     nodes_y,
                     seen,
                     half_edges,
+                    keys,
                     at,
                 );
                 write_row(
@@ -130,14 +139,16 @@ pub fn walk_rings(
     nodes_x: &[f64],
     nodes_y: &[f64],
     half_edges: &mut [u16],
+    keys: &mut [u64],
     ring_first: &mut [u16],
     ring_length: &mut [u16],
     ring_side: &mut [u8],
     ring_area: &mut [f64],
 ) -> u16
-    requires { ⌜ Listable limits edges (now next) (now «dir_edges_src») (now «dir_edges_marked») (now «nodes_x») (now «nodes_y») (now «half_edges») (rowsOf (now «ring_first») (now «ring_length») (now «ring_side») (now «ring_area»)) ⌝ }
-    ensures { λ r. ⌜ Listed (tableRings edges (now (next .entry)) (now («dir_edges_marked» .entry))) (now («dir_edges_src» .entry)) (now («nodes_x» .entry)) (now («nodes_y» .entry)) (now («half_edges» .entry)) (rowsOf (now («ring_first» .entry)) (now («ring_length» .entry)) (now («ring_side» .entry)) (now («ring_area» .entry)))
+    requires { ⌜ Listable limits edges (now next) (now «dir_edges_src») (now «dir_edges_marked») (now «nodes_x») (now «nodes_y») (now «half_edges») (now keys) (rowsOf (now «ring_first») (now «ring_length») (now «ring_side») (now «ring_area»)) ⌝ }
+    ensures rings { λ r. ⌜ Listed (tableRings edges (now (next .entry)) (now («dir_edges_marked» .entry))) (now («dir_edges_src» .entry)) (now («nodes_x» .entry)) (now («nodes_y» .entry)) (now («half_edges» .entry)) (rowsOf (now («ring_first» .entry)) (now («ring_length» .entry)) (now («ring_side» .entry)) (now («ring_area» .entry)))
         (now («half_edges» .exit)) (rowsOf (now («ring_first» .exit)) (now («ring_length» .exit)) (now («ring_side» .exit)) (now («ring_area» .exit))) r ⌝ }
+    ensures keys { λ _. ⌜ Keyed keysY (flatten (tableRings edges (now (next .entry)) (now («dir_edges_marked» .entry)))) (now («dir_edges_src» .entry)) (now («nodes_x» .entry)) (now («nodes_y» .entry)) (now (keys .entry)) (now (keys .exit)) ⌝ }
 {
     let mut seen = [false; MAX_HALF_EDGES];
     walk_unseen(
@@ -149,6 +160,7 @@ pub fn walk_rings(
         nodes_y,
         &mut seen,
         half_edges,
+        keys,
         ring_first,
         ring_length,
         ring_side,

@@ -5,6 +5,7 @@ use native.Mathlib.Omega.{arith}
 use mathlib.Core.Path.{_≡_, subst}
 use mathlib.Core.List.{List}
 use lib.ListN.{getD, take}
+use Rattle.lists.specs.Lists.{flatten}
 use Rattle.rules.specs.Cycles.{Arrangement, successor, label, halves}
 use Rattle.rules.specs.Split.{splitSuccessor}
 use Rattle.rules.specs.Limits.{limits}
@@ -14,6 +15,7 @@ use Rattle.stars.specs.Grouped.{Grouped}
 use Rattle.stars.proofs.Groups.{groups-within}
 use Rattle.pieces.proofs.Stars.{spreads}
 use Rattle.cycles.proofs.Outcome.{next-permutes, labels-right, rings-right}
+use Rattle.rings.specs.Keys.{keysY, Keyed}
 use Rattle.rings.specs.Listing.{rowsOf, Listed}
 use Rattle.splitting.proofs.Splitting.{splittable}
 use Rattle.rings.proofs.Rows.{table-permutes, table-rings}
@@ -32,7 +34,7 @@ Stars s star = Grouped (s .args .graph .«node_count») (s .args .dir-edges-src 
 
 -- the start, from the linking
 abbrev start : tie.After-link-successors → tie.Start
-start w = w .before .before .before .before .before .before .before .before .before .before .before .before .before
+start w = w .before .before .before .before .before .before .before .before .before .before .before .before .before .before
 
 -- the successors
 abbrev next : tie.After-link-successors → List ℕ
@@ -83,7 +85,7 @@ slice-aggregate-link-successors c = search needs
 
 link-successors-requires : tie.Need-link-successors-requires
 link-successors-requires c κs =
-    let s = c .before .before .before .before .before .before .before .before .before .before .before .before in
+    let s = c .before .before .before .before .before .before .before .before .before .before .before .before .before in
     let p = s .pre .0 in
     let graph = s .args .graph in
     (groups-within (graph .«node_count») (graph .«edge_count») (s .args .dir-edges-src .now) (s .args .dir-edges-marked .now) (p .star) (s .args .offsets .now) (s .args .grouped .now) (p .groups) (p .sane), p .inMarks, omega (arith, p .fewEdges))
@@ -110,7 +112,7 @@ label-rings-requires c κs =
 
 count-census-requires : tie.Need-count-census-requires
 count-census-requires c κs =
-    let s = c .before .before .before .before .before .before .before .before .before .before .before .before .before .before .before .before .before .before in
+    let s = c .before .before .before .before .before .before .before .before .before .before .before .before .before .before .before .before .before .before .before in
     let p = s .pre .0 in
     let graph = s .args .graph in
     (spreads (graph .«node_count») (graph .«edge_count») (s .args .dir-edges-src .now) (s .args .dir-edges-marked .now) (s .args .offsets .now) (s .args .grouped .now) (p .star) (p .groups) (p .sane) (p .inSource) (p .inMarks), s .pre .1, p .fewNodes, p .fewEdges)
@@ -136,7 +138,7 @@ slice-aggregate-walk-rings c = search needs
 
 walk-rings-requires : tie.Need-walk-rings-requires
 walk-rings-requires c κs =
-    let v = c .before .before .before .before .before .before .before in
+    let v = c .before .before .before .before .before .before .before .before in
     let s = begin v in
     let p = s .pre .0 in
     let placed = s .pre .1 in
@@ -153,39 +155,49 @@ walk-rings-requires c κs =
       inNext = omega (arith, p .fewEdges, v .split-rings .kept .1 .1 .1 .1 .1 .0, linking (labelling v) .link-successors .kept .1 .1 .1 .1 .0);
       inMarks = p .inMarks;
       inHalfEdges = q .inHalfEdges;
+      inKeys = q .inKeys;
       inRows = q .inRows;
     }
 
+-- where the rings are walked, from the last place
+abbrev walked : tie.After-slice-known12 → tie.After-walk-rings
+walked c = c .before .before .before .before .before .before .before .before .before .before .before .before
+
 same-length : tie.Need-same-length
-same-length c = search needs
+same-length c = walked c .walk-rings .kept .1 .1 .1 .1 .1 .1 .0
 
 same-length-2 : tie.Need-same-length-2
-same-length-2 c = search needs
+same-length-2 c = walked c .walk-rings .kept .1 .1 .1 .1 .1 .1 .1 .0
 
 same-length-3 : tie.Need-same-length-3
-same-length-3 c = search needs
+same-length-3 c = walked c .walk-rings .kept .1 .1 .1 .1 .1 .1 .1 .1 .0
 
 same-length-4 : tie.Need-same-length-4
-same-length-4 c = search needs
+same-length-4 c = walked c .walk-rings .kept .1 .1 .1 .1 .1 .1 .1 .1 .1 .0
 
 same-length-5 : tie.Need-same-length-5
-same-length-5 c = search needs
+same-length-5 c = walked c .walk-rings .kept .1 .1 .1 .1 .1 .1 .1 .1 .1 .1 .0
+
+same-length-6 : tie.Need-same-length-6
+same-length-6 c = walked c .walk-rings .kept .1 .1 .1 .1 .1 .1 .1 .1 .1 .1 .1 .0
 
 returns : tie.Need-returns
 returns c =
-    let x = c .before .before .before .before .before .before .before .before .before .before in
-    let v = x .before .before .before .before .before .before .before .before in
+    let x = walked c in
+    let v : tie.After-split-rings = x .before .before .before .before .before .before .before .before .before in
     let u = labelling v in
     let s = begin v in
     let graph = s .args .graph in
     let w = x .walk-rings .last .1 .1 .1 .1 .1 .1 in
     λ star gs sane.
     let rings = rings-right (graph .«node_count») (graph .«edge_count») (s .args .dir-edges-src .now) (s .args .dir-edges-marked .now) star (next (linking u)) sane (linked (linking u) star gs sane) (labels u) (u .label-rings .result) (u .label-rings .ensures) in
+    let same = table-rings (graph .«node_count») (graph .«edge_count») (s .args .dir-edges-src .now) (s .args .dir-edges-marked .now) star (further v) sane (split v star gs sane) in
     record {
       listed = subst (λ rs. Listed rs (s .args .dir-edges-src .now) (s .args .nodes-x .now) (s .args .nodes-y .now) (s .args .half-edges .now) (rowsOf (s .args .ring-first .now) (s .args .ring-length .now) (s .args .ring-side .now) (s .args .ring-area .now))
-          (w .0) (rowsOf (w .1 .0) (w .1 .1 .0) (w .1 .1 .1 .0) (w .1 .1 .1 .1 .0)) (x .walk-rings .result))
-          (table-rings (graph .«node_count») (graph .«edge_count») (s .args .dir-edges-src .now) (s .args .dir-edges-marked .now) star (further v) sane (split v star gs sane)) (x .walk-rings .ensures);
-      counted = c .before .before .before .before .before .before .before .before .before .before .before .before .before .before .before .before .before .before .before .before .before .count-census .ensures star gs sane rings;
+          (w .0) (rowsOf (w .1 .1 .0) (w .1 .1 .1 .0) (w .1 .1 .1 .1 .0) (w .1 .1 .1 .1 .1 .0)) (x .walk-rings .result))
+          same (x .walk-rings .ensures .0);
+      keyed = subst (λ rs. Keyed keysY (flatten rs) (s .args .dir-edges-src .now) (s .args .nodes-x .now) (s .args .nodes-y .now) (s .args .keys .now) (w .1 .0)) same (x .walk-rings .ensures .1);
+      counted = v .before .before .before .count-census .ensures star gs sane rings;
     }
 
 pub list-rings-spec : {M : Type 1} → statement M
@@ -208,4 +220,5 @@ list-rings-spec =
     same-length-3
     same-length-4
     same-length-5
+    same-length-6
     returns)
