@@ -7,7 +7,7 @@ use mathlib.Core.Bool.{Bool, true, false, cond}
 use mathlib.Core.List.{List, []}
 use lib.Dec.{eqb, ltb}
 use lib.ListN.{getD}
-use borrow.Author.Tests.{ltb-true, ltb-false, lt-ltb, le-ltb}
+use borrow.Author.Tests.{ltb-true, ltb-false}
 use Rattle.lists.specs.Lists.{bit, countOf, member, In}
 use Rattle.lists.proofs.Counts.{by-test, by-eq, by-lt, bit-other}
 use Rattle.rules.specs.Limits.{Limits}
@@ -101,16 +101,6 @@ module _ (l : Limits) (s : State) where
   pub free-is : freePlace l s ≡ min (lowestFree used) (l .pairs)
   unfolding freePlace
   free-is = refl
-
-  -- it is in the table where one is free there
-  pub free-below : ltb (freePlace l s) (l .pairs) ≡ ltb (lowestFree used) (l .pairs)
-  free-below = by-lt (lowestFree used) (l .pairs)
-      (λ h. lt-ltb (freePlace l s) (l .pairs) (omega (arith, free-is)) ∙ sym (lt-ltb (lowestFree used) (l .pairs) h))
-      (λ h. le-ltb (freePlace l s) (l .pairs) (omega (arith, free-is)) ∙ sym (le-ltb (lowestFree used) (l .pairs) h))
-
-  -- and then it is the lowest
-  pub free-there : freePlace l s < l .pairs → freePlace l s ≡ lowestFree used
-  free-there h = omega (arith, free-is)
 
   -- the marks that are made of the tables
   abbrev made : List Bool

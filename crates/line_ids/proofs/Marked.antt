@@ -124,7 +124,7 @@ module _ (pairs : ℕ) (place next : List ℕ) where
 -- ---- from the soundness of the lists
 
 -- the places of a list do not depend on the ids
-pub list-places-are : (pairs : ℕ) (t : Tracings) (k : ℕ) → listPlaces pairs (t .place) (t .next) k ≡ placesOf pairs t k
+list-places-are : (pairs : ℕ) (t : Tracings) (k : ℕ) → listPlaces pairs (t .place) (t .next) k ≡ placesOf pairs t k
 unfolding listPlaces
 list-places-are pairs t k = refl
 

@@ -1,17 +1,16 @@
 -- The line ids behind each edge, of every run: each step keeps the claim of the rules.
-use mathlib.Core.Path.{_≡_, refl, sym, ap, ap₂, subst, _∙_}
+use mathlib.Core.Path.{_≡_, sym, ap, subst, _∙_}
 use mathlib.Core.List.{List, [], _∷_, _++_}
 use native.Mathlib.Omega.{arith}
 use Prim.Native.Nat.{_≤_}
-use Rattle.geometry.specs.Reply.{Reply}
 use Rattle.rules.specs.Limits.{limits}
 use Rattle.rules.specs.LineIds.{listEnd}
 use Rattle.rules.specs.State.{State}
 use Rattle.rules.specs.Adding.{Outcome, Added, add}
 use Rattle.rules.specs.Stages.{sort, pruneStep, cutStep, reset}
 use Rattle.rules.specs.Ringing.{ringStep}
-use Rattle.rules.specs.Sketch.{Call, adding, sorting, pruning, cutting, ringing, resetting}
-use Rattle.rules.specs.Claim.{World, call, emptySketch, history}
+use Rattle.rules.specs.Sketch.{adding, sorting, pruning, cutting, ringing, resetting}
+use Rattle.rules.specs.Claim.{World, call, emptySketch}
 use Rattle.rules.specs.Filing.{filed, fileSegments}
 use Rattle.rules.specs.Traced.{Pass, passOf, passes, passed}
 use Rattle.rules.proofs.Filing.{file-feeds}
@@ -33,9 +32,8 @@ abbrev at : State → World
 at s = record { state = s; sketch = emptySketch }
 
 -- a call other than an addition, by the equation that gives its outcome
-other : {A L : Type 0} (c : Call) (s t : State) (log : List Pass) (o : Outcome A L) → t ≡ o .state
-    → Kept limits (o .state) log → Kept limits t log
-other c s t log o e r = subst (λ z. Kept limits z log) (sym e) r
+other : {A L : Type 0} (t : State) (log : List Pass) (o : Outcome A L) → t ≡ o .state → Kept limits (o .state) log → Kept limits t log
+other t log o e r = subst (λ z. Kept limits z log) (sym e) r
 
 -- a step keeps the claim
 step-kept : (s : State) (x : Step) (log : List Pass) → Meets s x → Kept limits s log → Kept limits (after x) (passesOf s x log)
@@ -48,11 +46,11 @@ step-kept s (runs.filed bytes reply t) log m r =
     let left : t ≡ filed limits gs s .state = ap (λ o. o .state) m ∙ records-filed limits bytes s .state in
     subst (λ z. Kept limits z (passed limits (filed limits gs s .calls) (at s) log)) (ap (λ w. w .state) (file-feeds limits gs s emptySketch) ∙ sym left)
     (history-kept limits small (filed limits gs s .calls) (at s) log r)
-step-kept s (runs.sorted reply t) log m r = other sorting s t log (sort limits s) (ap (λ o. o .state) m) (call-kept limits small sorting (at s) log r)
-step-kept s (runs.pruned out reply t written) log m r = other (pruning out) s t log (pruneStep limits s out) (ap (λ o. o .state) m) (call-kept limits small (pruning out) (at s) log r)
-step-kept s (runs.cut out reply t written) log m r = other (cutting out) s t log (cutStep limits s out) (ap (λ o. o .state) m) (call-kept limits small (cutting out) (at s) log r)
-step-kept s (runs.extracted out reply t written) log m r = other (ringing out) s t log (ringStep limits s out) (ap (λ o. o .state) m) (call-kept limits small (ringing out) (at s) log r)
-step-kept s (runs.reset reply t) log m r = other resetting s t log (reset limits s) (ap (λ o. o .state) m) (call-kept limits small resetting (at s) log r)
+step-kept s (runs.sorted reply t) log m r = other t log (sort limits s) (ap (λ o. o .state) m) (call-kept limits small sorting (at s) log r)
+step-kept s (runs.pruned out reply t written) log m r = other t log (pruneStep limits s out) (ap (λ o. o .state) m) (call-kept limits small (pruning out) (at s) log r)
+step-kept s (runs.cut out reply t written) log m r = other t log (cutStep limits s out) (ap (λ o. o .state) m) (call-kept limits small (cutting out) (at s) log r)
+step-kept s (runs.extracted out reply t written) log m r = other t log (ringStep limits s out) (ap (λ o. o .state) m) (call-kept limits small (ringing out) (at s) log r)
+step-kept s (runs.reset reply t) log m r = other t log (reset limits s) (ap (λ o. o .state) m) (call-kept limits small resetting (at s) log r)
 
 -- so does a run
 run-kept : (s : State) (xs : List Step) (log : List Pass) → Run s xs → Kept limits s log → Kept limits (ends s xs) (passesFrom s xs log)
