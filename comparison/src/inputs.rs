@@ -3,7 +3,9 @@
 use crate::random::Random;
 use oracle::calls::Line;
 use oracle::original::{Coord3D, Line3D};
-use oracle::state::{Call, EDGE_LIMIT, LIST_END, LIST_LENGTH, NODE_LIMIT, PAIR_LIMIT, TABLES};
+use oracle::state::{
+    Call, EDGE_LIMIT, HOLE_LIST_LENGTH, LIST_END, LIST_LENGTH, NODE_LIMIT, PAIR_LIMIT, TABLES,
+};
 
 /// The coordinate bound.
 pub const BOUND: i32 = 1_048_576;
@@ -150,7 +152,12 @@ pub fn shuffled(mut segments: Vec<Segment>, random: &mut Random) -> Vec<Segment>
 // ---- call lists
 
 /// Tables by their numbers in a call list.
+pub const NODES_X: usize = 0;
+pub const NODES_Y: usize = 1;
+pub const NODES_Z: usize = 2;
 pub const DEGREES: usize = 3;
+pub const NODE_MARKS: usize = 4;
+pub const SEGMENTS: usize = 5;
 pub const LINE_IDS: usize = 6;
 pub const SOURCES: usize = 7;
 pub const TARGETS: usize = 8;
@@ -283,7 +290,11 @@ pub fn any_line(size: usize, random: &mut Random) -> Line3D {
 
 /// Any calls in any order, mostly the next step; short tables and lists now and then.
 pub fn any_calls(length: usize, random: &mut Random) -> Vec<Line> {
-    let mut lines = vec![Line::List(LIST_LENGTH), Line::Call(Call::Create)];
+    let mut lines = vec![
+        Line::List(LIST_LENGTH),
+        Line::Holes(HOLE_LIST_LENGTH),
+        Line::Call(Call::Create),
+    ];
     let size = 1 + random.below(4);
     let mut stage = 0;
     for _ in 0..length {
@@ -293,8 +304,11 @@ pub fn any_calls(length: usize, random: &mut Random) -> Vec<Line> {
         if random.once_in(25) {
             lines.push(Line::List(random.below(12)));
         }
+        if random.once_in(25) {
+            lines.push(Line::Holes(random.below(3)));
+        }
         if random.once_in(10) {
-            lines.push(Line::List(LIST_LENGTH));
+            lines.extend([Line::List(LIST_LENGTH), Line::Holes(HOLE_LIST_LENGTH)]);
         }
         let call = match random.below(20) {
             0 => Call::Create,

@@ -5,16 +5,19 @@
 
 pub mod files;
 pub mod inputs;
+pub mod islands;
 pub mod random;
 
 mod library;
+mod lists;
 mod slices;
 
-pub use library::{answer, answer_file, front, lend_lists, Library};
+pub use library::{answer, answer_file, front, Library};
+pub use lists::{lend_lists, LentLists};
 pub use slices::{Packed, Slice};
 
 use oracle::calls::{self, Line};
-use oracle::state::{Call, Lent, Reply, Side, State};
+use oracle::state::{Call, Hole, Lent, Reply, Side, State};
 use oracle::{line_ids, rules, Oracle};
 use std::fmt::Write;
 
@@ -104,8 +107,13 @@ impl Comparison {
 
     /// Makes a call that has to leave every entry on both sides, refused or not; the reply.
     pub fn call_in_vain(&mut self, call: &Call) -> Reply {
+        self.lend_in_vain(call, &Lent::FULL)
+    }
+
+    /// The same of a call that is lent its tables and lists so.
+    pub fn lend_in_vain(&mut self, call: &Call, lent: &Lent) -> Reply {
         let before = self.states().map(State::clone);
-        let reply = self.call(call, &Lent::FULL).expect("no difference");
+        let reply = self.call(call, lent).expect("no difference");
         for (state, before) in self.states().into_iter().zip(before) {
             assert_eq!(state.difference(&before), None, "{call:?} {reply:?}");
         }
@@ -184,5 +192,10 @@ pub fn filled() -> State {
     lists.ring_face.fill(0xeeee);
     lists.ring_side.fill(0xee);
     floats(&mut lists.ring_area);
+    lists.holes.fill(Hole {
+        ring: 0xeeee,
+        holder: 0xeeee,
+        doubled: i64::from_ne_bytes([0xee; 8]),
+    });
     state
 }

@@ -1,8 +1,9 @@
 //! The library as one side of the comparison.
 
+use crate::lists::{lend_lists, LentLists};
 use crate::slices::{flag, Packed};
-use oracle::state::{Call, Census, Lent, Lists, Reply, Side, State};
-use tukmiheb::entries::{self, RingLists, Slices};
+use oracle::state::{Call, Census, Lent, Reply, Side, State};
+use tukmiheb::entries::{self, Slices};
 use tukmiheb::Refusal;
 
 /// The library, with tables and lists that the comparison can look into. For each call the tables
@@ -36,8 +37,9 @@ impl Side for Library {
         } = &mut self.state;
         let mut small = [*nodes, *edges, *stage];
         let mut packed = Packed::of(tables);
-        let (listed, mut rings) = lend_lists(lists, lent);
-        let answered = answer(call, &mut small, &mut packed.lend(lent), listed, &mut rings);
+        let answered = lend_lists(lists, lent, |lists| {
+            answer(call, &mut small, &mut packed.lend(lent), lists)
+        });
         packed.unpack(tables);
         [*nodes, *edges, *stage] = small;
         answered.unwrap_or_else(|refusal| Reply::Refused(refusal.number()))
@@ -45,21 +47,20 @@ impl Side for Library {
 }
 
 /// Room for the longest reply and an entry past it, which has to stay.
-type Numbers = [u16; 8];
+type Numbers = [u16; 10];
 
 /// What the library never answers.
-const UNWRITTEN: Numbers = [u16::MAX; 8];
+const UNWRITTEN: Numbers = [u16::MAX; 10];
 
 /// Makes a call on what is lent to it.
 pub fn answer(
     call: &Call,
     state: &mut [u16; 3],
     slices: &mut Slices,
-    listed: &mut [u16],
-    rings: &mut RingLists,
+    lists: LentLists,
 ) -> Result<Reply, Refusal> {
     let mut reply = UNWRITTEN;
-    let answered = made(call, state, slices, listed, rings, &mut reply);
+    let answered = made(call, state, slices, lists, &mut reply);
     let written = answered.map_or(0, |()| reply_length(call));
     assert_eq!(reply[written..], UNWRITTEN[written..], "{call:?}");
     answered.map(|()| granted(call, reply))
@@ -69,10 +70,14 @@ fn made(
     call: &Call,
     state: &mut [u16; 3],
     slices: &mut Slices,
-    listed: &mut [u16],
-    rings: &mut RingLists,
+    mut lists: LentLists,
     reply: &mut Numbers,
 ) -> Result<(), Refusal> {
+    let LentLists {
+        edges,
+        rings,
+        holes,
+    } = &mut lists;
     match call {
         Call::Create => entries::create(state, slices),
         Call::Add(line) => {
@@ -81,9 +86,9 @@ fn made(
             entries::add_line(state, &values, line.line_id, slices, front(reply))
         }
         Call::Sort => entries::sort_edges(state, slices),
-        Call::Prune => entries::prune_dangles(state, slices, listed, front(reply)),
-        Call::Cut => entries::delete_cut_edges(state, slices, listed, front(reply)),
-        Call::Rings => entries::extract_rings(state, slices, rings, front(reply)),
+        Call::Prune => entries::prune_dangles(state, slices, edges, front(reply)),
+        Call::Cut => entries::delete_cut_edges(state, slices, edges, front(reply)),
+        Call::Rings => entries::extract_rings(holes, state, slices, rings, front(reply)),
         Call::Reset => entries::reset(state, slices),
     }
 }
@@ -100,12 +105,13 @@ fn reply_length(call: &Call) -> usize {
         Call::Prune => 1,
         Call::Add(_) => 2,
         Call::Cut => 6,
-        Call::Rings => 7,
+        Call::Rings => 9,
     }
 }
 
 /// The reply to a call that was not refused, by its numbers.
-fn granted(call: &Call, [count, counts @ .., comparisons, _]: Numbers) -> Reply {
+fn granted(call: &Call, reply: Numbers) -> Reply {
+    let [count, counts @ .., comparisons, half_edges, holes, _] = reply;
     match call {
         Call::Create => Reply::Created,
         Call::Add(_) => Reply::Edge {
@@ -119,6 +125,8 @@ fn granted(call: &Call, [count, counts @ .., comparisons, _]: Numbers) -> Reply 
             count,
             census: census(counts),
             comparisons,
+            half_edges,
+            holes,
         },
     }
 }
@@ -146,18 +154,4 @@ pub fn answer_file(
     assert_eq!(reply[written..], UNWRITTEN[written..], "a file");
     let [taken, number, _] = reply;
     answered.map(|()| [taken, number])
-}
-
-/// The result lists as they are lent: the one for edges, and the six for rings.
-pub fn lend_lists<'a>(lists: &'a mut Lists, lent: &Lent) -> (&'a mut [u16], RingLists<'a>) {
-    let [edges, half_edges, first, length, face, side, area] = lent.lists;
-    let rings = RingLists {
-        half_edges: &mut lists.half_edges[..half_edges],
-        first: &mut lists.ring_first[..first],
-        length: &mut lists.ring_length[..length],
-        face: &mut lists.ring_face[..face],
-        side: &mut lists.ring_side[..side],
-        area: &mut lists.ring_area[..area],
-    };
-    (&mut lists.edges[..edges], rings)
 }

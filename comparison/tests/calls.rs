@@ -5,7 +5,7 @@ use comparison::inputs::{self, STEPS};
 use comparison::random::Random;
 use comparison::Comparison;
 use oracle::calls::Line;
-use oracle::state::{Call, Lent, Reply, State};
+use oracle::state::{Call, Lent, Reply, State, HOLES};
 
 #[test]
 fn any_calls() {
@@ -146,7 +146,7 @@ fn each_list() {
     let mut lines = inputs::traced(&inputs::grid(2, 2, 1));
     lines.extend(STEPS[..3].iter().map(|&step| Line::Call(step)));
     both.run(&lines);
-    for list in 1..7 {
+    for list in 1..HOLES {
         let mut lent = Lent::of_length(24);
         lent.lists[list] = 23;
         assert_eq!(both.call(&Call::Rings, &lent), Ok(Reply::Refused(8)));

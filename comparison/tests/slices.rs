@@ -4,7 +4,7 @@ use comparison::inputs::{self, Segment, STEPS};
 use comparison::random::Random;
 use comparison::{answer, answer_file, lend_lists, Packed, Slice};
 use oracle::calls::{self, Line};
-use oracle::state::{Call, Lent, Lists, Reply, Side, State, TABLES};
+use oracle::state::{Call, Lent, Lists, Reply, Side, State, LISTS, TABLES};
 use oracle::{listing, Oracle};
 use std::ops::RangeInclusive;
 use tukmiheb::layout::{HALF_EDGE_MARKS, NODE_MARKS};
@@ -53,8 +53,10 @@ impl Held {
 
     fn call(&mut self, call: &Call, lent: &Lent) -> Reply {
         let slices = &mut self.packed.lend(lent);
-        let (listed, mut rings) = lend_lists(&mut self.lists, lent);
-        let answered = answer(call, &mut self.small, slices, listed, &mut rings);
+        let small = &mut self.small;
+        let answered = lend_lists(&mut self.lists, lent, |lists| {
+            answer(call, small, slices, lists)
+        });
         answered.unwrap_or_else(|refusal| Reply::Refused(refusal.number()))
     }
 
@@ -78,7 +80,7 @@ impl Held {
     fn is(&self, other: &Held) -> bool {
         self.small == other.small
             && self.packed == other.packed
-            && self.lists.difference(&other.lists, [0; 7]).is_none()
+            && self.lists.difference(&other.lists, [0; LISTS]).is_none()
     }
 
     /// The places of the bytes in use.
@@ -212,7 +214,7 @@ fn order_of_refusals() {
         let last = stage.places_in_use().last().expect("a half-edge");
         held.packed.marks[last] = 2;
         let before = held.clone();
-        let lists = Lent::of_length(0);
+        let lists = Lent::of_length(0).with_holes(0);
         for asked in bad_calls() {
             for table in 0..TABLES {
                 let short = Some(table);

@@ -10,6 +10,7 @@
 //! set TABLE PLACE VALUE        sets an entry of a table, 0 to 13 in their order (damage)
 //! short TABLE                  the next call is lent the slice with this table one entry short
 //! list LENGTH                  from now on the result lists are lent with this many entries
+//! holes LENGTH                 from now on the hole list is lent with this many records
 //! ```
 //!
 //! A float is a whole number (`-0` is -0.0) or `x` and the 16 hexadecimal digits of its bits. A
@@ -17,7 +18,10 @@
 
 use crate::line_ids;
 use crate::original::{Coord3D, Line3D};
-use crate::state::{Call, Census, Lent, Reply, Side, State, Tables, LIST_LENGTH, TABLES};
+use crate::state::{
+    Call, Census, Hole, Lent, Reply, Side, State, Tables, HOLES, HOLE_LIST_LENGTH, LIST_LENGTH,
+    TABLES,
+};
 use std::fmt::{self, Display, Formatter, Write};
 use std::str::FromStr;
 
@@ -37,6 +41,7 @@ pub enum Line {
     Set(usize, usize, f64),
     Short(usize),
     List(usize),
+    Holes(usize),
 }
 
 /// Runs a call list on one side; what it prints.
@@ -81,7 +86,8 @@ pub fn prepare(line: &Line, side: &mut impl Side, lent: &mut Lent) -> Result<(),
                 .ok_or("no such entry, or not a value of its table")?;
         }
         Line::Short(table) => lent.short = Some(table),
-        Line::List(length) => lent.lists = [length; 7],
+        Line::List(length) => lent.lists[..HOLES].fill(length),
+        Line::Holes(length) => lent.lists[HOLES] = length,
         Line::Comment(_) | Line::Show | Line::Call(_) => {}
     }
     Ok(())
@@ -95,7 +101,7 @@ fn made(call: &Call, side: &mut impl Side, lent: &Lent) -> String {
     let mut lines = answered(&reply, after);
     let changed = match reply {
         Reply::Refused(_) => before.difference(after),
-        _ => before.lists.difference(&after.lists, after.written(&reply)),
+        _ => before.lists.difference(&after.lists, reply.written()),
     };
     if changed.is_some() {
         let first_line = lines.find('\n').unwrap_or(lines.len());
@@ -147,10 +153,14 @@ fn answered(reply: &Reply, state: &State) -> String {
             count,
             census,
             comparisons,
+            half_edges,
+            holes,
         } => {
+            let written = format!("halves {half_edges} holes {holes}");
             let rings = (0..usize::from(count)).map(|ring| ring_line(ring, state));
-            let rings: String = rings.collect();
-            format!("rings {count} {census} comparisons {comparisons}\n{rings}")
+            let records = state.lists.holes[..usize::from(holes)].iter();
+            let lines: String = rings.chain(records.map(hole_line)).collect();
+            format!("rings {count} {census} comparisons {comparisons} {written}\n{lines}")
         }
     }
 }
@@ -175,6 +185,15 @@ fn ring_line(ring: usize, state: &State) -> String {
         2.0 * lists.ring_area[ring],
         spaced(&lists.half_edges[first..first + length])
     )
+}
+
+fn hole_line(hole: &Hole) -> String {
+    let Hole {
+        ring,
+        holder,
+        doubled,
+    } = hole;
+    format!("hole {ring} holder {holder} doubled {doubled}\n")
 }
 
 /// What `show` prints. Counts past the tables' ends show what the tables have.
@@ -292,6 +311,7 @@ impl Display for Line {
             Line::Set(table, place, value) => write!(out, "set {table} {place} {}", Word(*value)),
             Line::Short(table) => write!(out, "short {table}"),
             Line::List(length) => write!(out, "list {length}"),
+            Line::Holes(length) => write!(out, "holes {length}"),
         }
     }
 }
@@ -323,6 +343,7 @@ impl FromStr for Line {
             }
             ["short", table] => Line::Short(below(TABLES, whole(table)?)?),
             ["list", length] => Line::List(below(LIST_LENGTH + 1, whole(length)?)?),
+            ["holes", length] => Line::Holes(below(HOLE_LIST_LENGTH + 1, whole(length)?)?),
             _ => return Err(format!("no call: {line}")),
         })
     }

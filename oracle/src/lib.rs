@@ -1,18 +1,20 @@
 //! The original Rust methods, run beside the library on the same calls.
 //!
 //! [`Oracle`] answers every call of the library: document 01's refusals come from [`rules`], the
-//! places of line ids from [`line_ids`], all else from the original's own methods in [`original`]. Its
-//! state has the library's tables and lists ([`state`]), so that these and the replies can be compared
-//! entry by entry.
+//! places of line ids from [`line_ids`], the holders of open rings from [`holes`], all else from the
+//! original's own methods in [`original`]. Its state has the library's tables and lists ([`state`]), so
+//! that these and the replies can be compared entry by entry.
 //!
 //! Build it in release: the original checks more in debug builds, and document 01 compares release
 //! builds.
 
 pub mod calls;
+pub mod holes;
 pub mod line_ids;
 pub mod listing;
 pub mod oracle;
 pub mod original;
+mod rings;
 pub mod rotation;
 pub mod rules;
 pub mod stand_ins;

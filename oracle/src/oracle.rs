@@ -1,12 +1,12 @@
 //! The oracle: it answers a call by document 01's refusals, and else by the original's methods.
 
 use crate::line_ids;
-use crate::original::steps::{self, Ring};
+use crate::original::steps;
 use crate::original::{Coord3D, DirectedEdge, Edge, Line3D, NodeKey, PlanarGraph};
-use crate::rotation::least_rotation;
-use crate::rules::{self, Named};
+use crate::rings::Extracted;
+use crate::rules::{self, Named, Refusal};
 use crate::stand_ins::{Coord, EdgeSources};
-use crate::state::{Call, Lent, Lists, Reply, Side, State, Tables};
+use crate::state::{Call, Lent, Lists, Reply, Side, State, Tables, HOLES};
 use std::collections::BTreeSet;
 
 /// The original's graph, and the state in the library's tables.
@@ -56,9 +56,10 @@ impl Oracle {
         &self.line_ids
     }
 
-    fn step(&mut self, call: &Call) -> Reply {
+    /// Makes a call that no test of the state refuses.
+    fn step(&mut self, call: &Call, lent: &Lent) -> Result<Reply, Refusal> {
         let lists = &mut self.state.lists;
-        match *call {
+        Ok(match *call {
             Call::Create => {
                 self.graph = PlanarGraph::new();
                 self.line_ids.clear();
@@ -77,22 +78,24 @@ impl Oracle {
                 let (cuts, census) = steps::cut(&mut self.graph);
                 Reply::Cuts(put_edges(&cuts, lists), census)
             }
-            Call::Rings => {
-                let (rings, census) = steps::rings(&mut self.graph);
-                let count = rings.len() as u16;
-                let comparisons = comparisons(&self.graph, &rings);
-                self.named = put_rings(rings, lists);
-                Reply::Rings {
-                    count,
-                    census,
-                    comparisons,
-                }
-            }
+            Call::Rings => self.extract_rings(lent)?,
             Call::Reset => {
                 self.graph.reset_traversal_state();
                 Reply::Done
             }
-        }
+        })
+    }
+
+    /// Extracts the rings from a copy of the graph: how many are open, and so number 13, is known only
+    /// behind it.
+    fn extract_rings(&mut self, lent: &Lent) -> Result<Reply, Refusal> {
+        let mut graph = self.graph.clone();
+        let extracted = Extracted::of(&mut graph);
+        rules::check_holes(extracted.holes.len(), lent.lists[HOLES])?;
+        let reply = extracted.put(&mut self.state.lists);
+        self.graph = graph;
+        self.named = extracted.named;
+        Ok(reply)
     }
 
     /// Puts an addition's id behind its edge: into the set, and where it is new there into the tables.
@@ -134,7 +137,10 @@ impl Side for Oracle {
             self.line_ids = self.graph.edges.iter().map(listed).collect();
         }
         let old_edges = self.graph.edges.len();
-        let reply = self.step(call);
+        let reply = match self.step(call, lent) {
+            Ok(reply) => reply,
+            Err(refusal) => return Reply::Refused(refusal.number()),
+        };
         store(&self.graph, &mut self.state);
         match call {
             Call::Create | Call::Reset => self.state.stage = 0,
@@ -165,63 +171,6 @@ fn put_edges(edges: &[usize], lists: &mut Lists) -> u16 {
         *entry = edge as u16;
     }
     edges.len() as u16
-}
-
-/// Writes the rings; how the original names them.
-fn put_rings(rings: Vec<Ring>, lists: &mut Lists) -> Vec<Named> {
-    let mut place = 0;
-    let mut named = Vec::new();
-    for (number, ring) in rings.into_iter().enumerate() {
-        lists.ring_first[number] = place as u16;
-        lists.ring_length[number] = ring.half_edges.len() as u16;
-        lists.ring_side[number] = side(ring.area);
-        lists.ring_area[number] = ring.area;
-        for half_edge in ring.half_edges {
-            lists.half_edges[place] = half_edge as u16;
-            place += 1;
-        }
-        named.push(Named {
-            key: ring.key,
-            area: ring.area,
-            face: ring.face,
-        });
-    }
-    for (entry, face) in lists.ring_face.iter_mut().zip(rules::break_ties(&named)) {
-        *entry = face as u16;
-    }
-    named
-}
-
-/// How often naming the rings compared two entries. The original searches each ring once, from its
-/// lowest half-edge, where the ring begins; the same searches are made again, and counted.
-fn comparisons(graph: &PlanarGraph, rings: &[Ring]) -> u16 {
-    let of_ring = |ring: &Ring| {
-        let mut entries = ring_entries(graph, ring);
-        let rotation = least_rotation(&entries);
-        entries.rotate_left(rotation.place);
-        assert_eq!(entries, ring.key, "another key than the original's");
-        rotation.comparisons
-    };
-    rings.iter().map(of_ring).sum::<usize>() as u16
-}
-
-/// A ring's key as it is searched: the bits of its starting nodes, not turned yet.
-fn ring_entries(graph: &PlanarGraph, ring: &Ring) -> Vec<[u64; 2]> {
-    let sources = ring.half_edges.iter();
-    let nodes = sources.map(|&half| graph.directed_edges[half].src);
-    let points = nodes.map(|node| Coord3D::new(graph.nodes_x[node], graph.nodes_y[node], 0.0));
-    points.map(rules::key).collect()
-}
-
-/// 0 flat, 1 enclosed, 2 open.
-fn side(area: f64) -> u8 {
-    if area > 0.0 {
-        1
-    } else if area < 0.0 {
-        2
-    } else {
-        0
-    }
 }
 
 /// The original's graph as the tables have it.

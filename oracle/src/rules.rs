@@ -1,11 +1,11 @@
-//! The documents' own rules, which the original has not: refusals 1 to 12 in their order, the stages,
+//! The documents' own rules, which the original has not: refusals 1 to 13 in their order, the stages,
 //! room, the soundness list, and ties in face naming. Number 12, and the lists of line ids in the
-//! soundness list, are request §1's; all else is document 01's.
+//! soundness list, are request §1's, number 13 is request §2's; all else is document 01's.
 
 use crate::line_ids;
 use crate::original::{canonical_coordinate_bits, compare_angular, Coord3D, Line3D};
 use crate::stand_ins::Coord;
-use crate::state::{Call, Lent, State, EDGE_LIMIT, LEAST_LENGTHS, NODE_LIMIT};
+use crate::state::{Call, Lent, State, EDGE_LIMIT, HOLES, LEAST_LENGTHS, NODE_LIMIT};
 use std::cmp::Ordering;
 
 /// How far from zero an x or a y may lie.
@@ -31,6 +31,7 @@ pub enum Refusal {
     RecordLength = 10,
     RecordKind = 11,
     TooManyPairs = 12,
+    TooFewHoles = 13,
 }
 
 impl Refusal {
@@ -49,7 +50,7 @@ fn demand(holds: bool, refusal: Refusal) -> Checked {
     }
 }
 
-/// The first refusal that is due, if any.
+/// The first refusal that is due, if any, but for number 13, which needs the rings.
 pub fn check(call: &Call, state: &State, lent: &Lent) -> Checked {
     demand(has_room(state, lent), Refusal::TableTooShort)?;
     if matches!(call, Call::Create) {
@@ -62,7 +63,7 @@ pub fn check(call: &Call, state: &State, lent: &Lent) -> Checked {
     match call {
         Call::Add(line) => check_line(line, state),
         Call::Prune | Call::Cut => check_lists(state.edges, &lent.lists[..1]),
-        Call::Rings => check_lists(2 * state.edges, &lent.lists[1..]),
+        Call::Rings => check_lists(2 * state.edges, &lent.lists[1..HOLES]),
         Call::Create | Call::Sort | Call::Reset => Ok(()),
     }
 }
@@ -81,6 +82,11 @@ fn stage_before(call: &Call) -> Option<u16> {
 fn check_lists(least: u16, lengths: &[usize]) -> Checked {
     let long = lengths.iter().all(|&length| length >= usize::from(least));
     demand(long, Refusal::ListTooShort)
+}
+
+/// Number 13, tested after all others: the hole list has a record for each open ring.
+pub fn check_holes(open_rings: usize, length: usize) -> Checked {
+    demand(open_rings <= length, Refusal::TooFewHoles)
 }
 
 /// Numbers 1 and 2; an edge that is there already, which needs a pair for an id that it lacks; numbers

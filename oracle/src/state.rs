@@ -13,8 +13,19 @@ pub const PAIR_LIMIT: usize = 4096;
 /// No place: it ends a list of line ids.
 pub const LIST_END: u16 = 65_535;
 
+/// The holder of an open ring that no ring holds.
+pub const OUTSIDE: u16 = 65_535;
+
 /// The entries of the longest result list: one for each half-edge.
 pub const LIST_LENGTH: usize = 2 * EDGE_LIMIT;
+
+/// The records of the hole list. A ring that has an area has two half-edges or more, so there are never
+/// more open rings than edges.
+pub const HOLE_LIST_LENGTH: usize = EDGE_LIMIT;
+
+/// How many result lists there are, and the place of the hole list among them.
+pub const LISTS: usize = 8;
+pub const HOLES: usize = 7;
 
 /// How many tables there are.
 pub const TABLES: usize = 14;
@@ -62,7 +73,16 @@ pub struct Tables {
     pub pairs_next: Vec<u16>,
 }
 
-/// The lent result lists: one for the edges that pruning and cutting list, six for rings.
+/// A record of the hole list: an open ring by its number, its holder's number or [`OUTSIDE`], and its own
+/// doubled area.
+#[derive(Clone, Copy, Debug, PartialEq, Eq)]
+pub struct Hole {
+    pub ring: u16,
+    pub holder: u16,
+    pub doubled: i64,
+}
+
+/// The lent result lists: one for the edges that pruning and cutting list, six for rings, one for holes.
 #[derive(Clone)]
 pub struct Lists {
     pub edges: Vec<u16>,
@@ -73,6 +93,7 @@ pub struct Lists {
     /// 0 flat, 1 enclosed, 2 open.
     pub ring_side: Vec<u8>,
     pub ring_area: Vec<f64>,
+    pub holes: Vec<Hole>,
 }
 
 /// All that a call can change.
@@ -104,19 +125,24 @@ pub struct Lent {
     /// holds this table.
     pub short: Option<usize>,
     /// The entries of each list, in the order of [`Lists`].
-    pub lists: [usize; 7],
+    pub lists: [usize; LISTS],
 }
 
 impl Lent {
     /// Everything at its full length.
     pub const FULL: Lent = Lent::of_length(LIST_LENGTH);
 
-    /// Every list with this many entries.
+    /// Every list with this many entries, but the hole list at its full length.
     pub const fn of_length(length: usize) -> Self {
-        Lent {
-            short: None,
-            lists: [length; 7],
-        }
+        let mut lists = [length; LISTS];
+        lists[HOLES] = HOLE_LIST_LENGTH;
+        Lent { short: None, lists }
+    }
+
+    /// The same with this many records for holes.
+    pub const fn with_holes(mut self, length: usize) -> Self {
+        self.lists[HOLES] = length;
+        self
     }
 
     /// How many entries of a table are lent, which has `length`.
@@ -158,7 +184,27 @@ pub enum Reply {
         census: Census,
         /// How often the least-rotation searches of all rings compared two entries.
         comparisons: u16,
+        /// How many half-edges and holes were written; of each other ring list `count`.
+        half_edges: u16,
+        holes: u16,
     },
+}
+
+impl Reply {
+    /// How many entries of each list it says were written, in the order of [`Lists`].
+    pub fn written(&self) -> [usize; LISTS] {
+        let written = match *self {
+            Reply::Dangles(count) | Reply::Cuts(count, _) => [count, 0, 0, 0, 0, 0, 0, 0],
+            Reply::Rings {
+                count,
+                half_edges,
+                holes,
+                ..
+            } => [0, half_edges, count, count, count, count, count, holes],
+            _ => [0; LISTS],
+        };
+        written.map(usize::from)
+    }
 }
 
 /// One side of a comparison.
@@ -170,6 +216,13 @@ pub trait Side {
 
     fn call(&mut self, call: &Call, lent: &Lent) -> Reply;
 }
+
+/// Zero in every field.
+const NO_HOLE: Hole = Hole {
+    ring: 0,
+    holder: 0,
+    doubled: 0,
+};
 
 impl Default for State {
     /// No graph yet, and zero everywhere.
@@ -204,6 +257,7 @@ impl Default for State {
                 ring_face: vec![0; LIST_LENGTH],
                 ring_side: vec![0; LIST_LENGTH],
                 ring_area: vec![0.0; LIST_LENGTH],
+                holes: vec![NO_HOLE; HOLE_LIST_LENGTH],
             },
         }
     }
@@ -223,26 +277,12 @@ impl State {
         stars
     }
 
-    /// How many entries of each list the reply says were written.
-    pub fn written(&self, reply: &Reply) -> [usize; 7] {
-        match *reply {
-            Reply::Dangles(count) | Reply::Cuts(count, _) => [usize::from(count), 0, 0, 0, 0, 0, 0],
-            Reply::Rings { count, .. } => {
-                let count = usize::from(count).min(self.lists.ring_length.len());
-                let lengths = &self.lists.ring_length[..count];
-                let half_edges = lengths.iter().map(|&length| usize::from(length)).sum();
-                [0, half_edges, count, count, count, count, count]
-            }
-            _ => [0; 7],
-        }
-    }
-
     /// The first entry in which two states differ, floats by their bits.
     pub fn difference(&self, other: &State) -> Option<String> {
         let small = |state: &State| [state.nodes, state.edges, state.stage];
         differ("counts and stage", &small(self), &small(other))
             .or_else(|| self.tables.difference(&other.tables))
-            .or_else(|| self.lists.difference(&other.lists, [0; 7]))
+            .or_else(|| self.lists.difference(&other.lists, [0; LISTS]))
     }
 }
 
@@ -287,8 +327,8 @@ impl Tables {
 
 impl Lists {
     /// The first difference at or past the given place of each list.
-    pub fn difference(&self, other: &Lists, from: [usize; 7]) -> Option<String> {
-        let (a, b, [edges, half, first, length, face, side, area]) = (self, other, from);
+    pub fn difference(&self, other: &Lists, from: [usize; LISTS]) -> Option<String> {
+        let (a, b, [edges, half, first, length, face, side, area, holes]) = (self, other, from);
         differ("edges", &a.edges[edges..], &b.edges[edges..])
             .or_else(|| differ("half_edges", &a.half_edges[half..], &b.half_edges[half..]))
             .or_else(|| differ("ring_first", &a.ring_first[first..], &b.ring_first[first..]))
@@ -302,41 +342,53 @@ impl Lists {
             .or_else(|| differ("ring_face", &a.ring_face[face..], &b.ring_face[face..]))
             .or_else(|| differ("ring_side", &a.ring_side[side..], &b.ring_side[side..]))
             .or_else(|| differ("ring_area", &a.ring_area[area..], &b.ring_area[area..]))
+            .or_else(|| differ("holes", &a.holes[holes..], &b.holes[holes..]))
     }
 }
 
 /// An entry as bits, so that floats are compared by theirs.
 trait Bits: Copy {
-    fn bits(self) -> u64;
+    fn bits(self) -> u128;
 }
 
 impl Bits for f64 {
-    fn bits(self) -> u64 {
-        self.to_bits()
+    fn bits(self) -> u128 {
+        self.to_bits().into()
     }
 }
 
 impl Bits for u32 {
-    fn bits(self) -> u64 {
-        u64::from(self)
+    fn bits(self) -> u128 {
+        self.into()
     }
 }
 
 impl Bits for u16 {
-    fn bits(self) -> u64 {
-        u64::from(self)
+    fn bits(self) -> u128 {
+        self.into()
     }
 }
 
 impl Bits for u8 {
-    fn bits(self) -> u64 {
-        u64::from(self)
+    fn bits(self) -> u128 {
+        self.into()
     }
 }
 
 impl Bits for bool {
-    fn bits(self) -> u64 {
-        u64::from(self)
+    fn bits(self) -> u128 {
+        self.into()
+    }
+}
+
+impl Bits for Hole {
+    fn bits(self) -> u128 {
+        let [ring, holder, doubled] = [
+            self.ring.into(),
+            self.holder.into(),
+            u128::from(self.doubled as u64),
+        ];
+        ring << 80 | holder << 64 | doubled
     }
 }
 
@@ -344,8 +396,8 @@ impl Bits for bool {
 /// faster where they agree.
 fn differ<T: Bits>(name: &str, a: &[T], b: &[T]) -> Option<String> {
     let pairs = || a.iter().zip(b);
-    let folded = pairs().fold(0, |all, (x, y)| all | (x.bits() ^ y.bits()));
-    if folded == 0 && a.len() == b.len() {
+    let same = pairs().fold(true, |all, (x, y)| all & (x.bits() == y.bits()));
+    if same && a.len() == b.len() {
         return None;
     }
     let place = pairs().position(|(x, y)| x.bits() != y.bits());

@@ -50,7 +50,27 @@ fn order_of_a_step() {
         "cuts 0 census 3 3 2 1 yes"
     );
     assert_eq!(last("sort\nlist 3\nprune\ncut\nlist 5\nrings"), "refused 8");
-    assert!(last("sort\nprune\ncut\nlist 6\nrings").starts_with("ring 1 "));
+    assert!(last("sort\nprune\ncut\nlist 6\nrings").starts_with("hole 1 "));
+}
+
+/// Number 13 comes after all others, and the length of the other lists is not the hole list's.
+#[test]
+fn order_of_ring_extraction() {
+    let cut = "sort\nprune\ncut\n";
+    for (lines, reply) in [
+        ("set 9 0 1\nlist 0\nholes 0\nshort 10", "refused 6"),
+        ("set 9 0 1\nlist 0\nholes 0", "refused 7"),
+        ("list 5\nholes 0", "refused 8"),
+        ("list 6\nholes 0", "refused 13"),
+        ("holes 0\nlist 2048", "refused 13"),
+        ("holes 1\nlist 6", "hole 1 holder 65535 doubled -12"),
+        ("holes 0\nholes 1024", "hole 1 holder 65535 doubled -12"),
+    ] {
+        assert_eq!(last(&format!("{cut}{lines}\nrings")), reply, "{lines}");
+    }
+    assert_eq!(last("list 0\nholes 0\nrings"), "refused 5");
+    let again = format!("{cut}holes 0\nrings\nrings\nreset\n{cut}rings\nholes 1\nrings");
+    assert!(last(&again).starts_with("hole 1 "));
 }
 
 #[test]

@@ -86,7 +86,8 @@ fn of_triangle([a, b, c]: [&str; 3]) -> String {
     let list = format!("create\n{}sort\nprune\ncut\nrings\n", sides.concat());
     let printed = calls::run(&list, &mut Oracle::default()).expect("a call list");
     let line = printed.lines().find(|line| line.starts_with("rings "));
-    let mut words = line.expect("the reply of rings").rsplit(' ');
+    let mut words = line.expect("the reply of rings").split(' ');
+    words.find(|&word| word == "comparisons");
     words.next().expect("a number").to_string()
 }
 

@@ -27,7 +27,7 @@ fn p1_empty_graph() {
         traced(&[]),
         "dangles 0\n\
          cuts 0 census 0 0 0 0 yes\n\
-         rings 0 census 0 0 0 0 yes comparisons 0\n"
+         rings 0 census 0 0 0 0 yes comparisons 0 halves 0 holes 0\n"
     );
 }
 
@@ -91,9 +91,10 @@ fn p5_triangles_at_a_point() {
         [-2, 1, -2, -1],
         [-2, -1, 0, 0],
     ]);
-    assert!(printed.contains("rings 4 census 5 6 3 1 yes comparisons 8\n"));
+    assert!(printed.contains("rings 4 census 5 6 3 1 yes comparisons 8 halves 12 holes 2\n"));
     let doubled: Vec<&str> = printed
         .lines()
+        .filter(|line| line.starts_with("ring "))
         .filter_map(|line| line.split("doubled ").nth(1)?.split(' ').next())
         .collect();
     assert_eq!(doubled, ["4", "-4", "4", "-4"]);
@@ -111,9 +112,10 @@ fn p6_square_with_diagonals() {
     ]);
     let expected = "dangles 0\n\
                     cuts 2 4 5 census 4 6 2 1 no\n\
-                    rings 2 census 4 4 2 1 yes comparisons 6\n\
+                    rings 2 census 4 4 2 1 yes comparisons 6 halves 8 holes 1\n\
                     ring 0 face 1 side enclosed doubled 8 halves 0 2 4 6\n\
-                    ring 1 face 0 side open doubled -8 halves 1 7 5 3\n";
+                    ring 1 face 0 side open doubled -8 halves 1 7 5 3\n\
+                    hole 1 holder 65535 doubled -8\n";
     assert_eq!(printed, expected);
 }
 
@@ -169,5 +171,5 @@ fn crossing_triangles_without_a_node() {
         [6, 4, 3, -2],
         [3, -2, 0, 4],
     ]);
-    assert!(printed.contains("rings 4 census 6 6 4 2 yes comparisons 8\n"));
+    assert!(printed.contains("rings 4 census 6 6 4 2 yes comparisons 8 halves 12 holes 2\n"));
 }

@@ -1,55 +1,73 @@
-//! A trace in, compartments and their areas out, with the line ids of the passes that drew their
-//! borders.
+//! A trace in, compartments and their areas out, without the islands in them, with the line ids of the
+//! passes that drew their borders.
 //!
 //! `cargo run --example compartments < trace` reads a segment file from standard input.
 
 use std::collections::BTreeSet;
 use std::error::Error;
 use std::io::{self, Read};
-use tukmiheb::{Graph, Refusal, Ring};
+use tukmiheb::{Compartment, Graph, Refusal};
 
-/// A compartment of the map.
-struct Compartment {
+/// What is printed of a compartment.
+struct Listed {
     face: u16,
     area: f64,
     corners: Vec<(f64, f64)>,
+    holes: Vec<u16>,
     passes: BTreeSet<u32>,
 }
 
 /// The compartments of a trace, or why it is refused.
-fn compartments(bytes: &[u8]) -> Result<Vec<Compartment>, Refusal> {
+fn compartments(bytes: &[u8]) -> Result<Vec<Listed>, Refusal> {
     let mut graph = Graph::new();
     graph.add_records(bytes)?.whole()?;
     graph.sort_edges()?;
     graph.prune_dangles()?;
     graph.delete_cut_edges()?;
     let rings = graph.extract_rings()?;
-    let compartments = rings.enclosed().map(|ring| Compartment {
-        face: ring.face().0,
-        area: ring.area(),
-        corners: ring.points().map(|point| (point.x, point.y)).collect(),
-        passes: passes(ring, rings.graph()),
-    });
-    Ok(compartments.collect())
+    let compartments = rings.compartments();
+    Ok(compartments
+        .map(|compartment| listed(compartment, rings.graph()))
+        .collect())
 }
 
-/// The line ids of all passes that drew a ring's borders.
-fn passes(ring: Ring, graph: &Graph) -> BTreeSet<u32> {
-    let edges = ring.half_edges().map(|half_edge| half_edge.edge());
+fn listed(compartment: Compartment, graph: &Graph) -> Listed {
+    let ring = compartment.ring();
+    let holes = compartment.holes().map(|hole| hole.face().0);
+    Listed {
+        face: ring.face().0,
+        area: compartment.net_area(),
+        corners: ring.points().map(|point| (point.x, point.y)).collect(),
+        holes: holes.collect(),
+        passes: passes(compartment, graph),
+    }
+}
+
+/// The line ids of all passes that drew a compartment's borders, its outline and its holes.
+fn passes(compartment: Compartment, graph: &Graph) -> BTreeSet<u32> {
+    let borders = [compartment.ring()].into_iter().chain(compartment.holes());
+    let half_edges = borders.flat_map(|ring| ring.half_edges());
+    let edges = half_edges.map(|half_edge| half_edge.edge());
     edges.flat_map(|edge| graph.line_ids(edge)).collect()
 }
 
 fn main() -> Result<(), Box<dyn Error>> {
     let mut bytes = Vec::new();
     io::stdin().read_to_end(&mut bytes)?;
-    for Compartment {
+    for Listed {
         face,
         area,
         corners,
+        holes,
         passes,
     } in compartments(&bytes)?
     {
-        println!("face {face}: area {area}, corners {corners:?}, drawn by lines {passes:?}");
+        let holes = if holes.is_empty() {
+            String::new()
+        } else {
+            format!(", holes {holes:?}")
+        };
+        println!("face {face}: area {area}, corners {corners:?}{holes}, drawn by lines {passes:?}");
     }
     Ok(())
 }

@@ -36,21 +36,37 @@ pub struct RingLists<'a> {
     pub area: &'a mut [f64],
 }
 
+/// A record of the hole list: an open ring and the enclosed ring that holds it, by their places among the
+/// rings, and the open ring's doubled area, which is below 0.
+#[repr(C)]
+#[derive(Clone, Copy, Debug, Default, PartialEq, Eq)]
+pub struct HoleRecord {
+    pub ring: u16,
+    /// [`OUTSIDE`](crate::layout::OUTSIDE) where no ring holds it.
+    pub holder: u16,
+    pub doubled: i64,
+}
+
 fn answered(number: u32) -> Result<(), Refusal> {
     match number {
         0 => Ok(()),
-        _ => Err(Refusal::from_number(number).expect("the library answers 0 to 12")),
+        _ => Err(Refusal::from_number(number).expect("the library answers 0 to 13")),
     }
 }
 
-/// Calls an entry with the state, what goes before the slices, the slices, and what goes after.
+/// Calls an entry with what goes before the state, in brackets, the state, what goes before the slices, the
+/// slices, and what goes after.
 macro_rules! lend {
-    ($entry:ident, $state:ident, [$($before:expr),*], $slices:ident, [$($after:expr),*]) => {
+    (
+        $entry:ident $([$($first:expr),*])?, $state:ident, [$($before:expr),*], $slices:ident,
+        [$($after:expr),*]
+    ) => {
         // SAFETY: each pointer and length is that of a slice, and each pointer alone that of an
         // array, which is lent to this call alone; the library stays within them and keeps no
         // pointer.
         answered(unsafe {
             ffi::$entry(
+                $($($first,)*)?
                 $state,
                 $($before,)*
                 $slices.floats.as_mut_ptr(),
@@ -150,16 +166,19 @@ pub fn delete_cut_edges(
     )
 }
 
-/// Lists the rings: stage 3 to 4. `reply` gets their count, V, E, cycles, C, the verdict, and how
-/// often the least-rotation searches of all rings compared two keys. No slice is written.
+/// Lists the rings and the holes: stage 3 to 4. `reply` gets the count of rings, V, E, cycles, C, the
+/// verdict, how often the least-rotation searches of all rings compared two keys, and how many half-edges
+/// and holes were written. A hole list with as many records as the graph has edges is always long enough.
+/// No slice is written.
 pub fn extract_rings(
+    holes: &mut [HoleRecord],
     state: &mut [u16; 3],
     slices: &mut Slices,
     rings: &mut RingLists,
-    reply: &mut [u16; 7],
+    reply: &mut [u16; 9],
 ) -> Result<(), Refusal> {
     lend!(
-        tukmiheb_extract_rings,
+        tukmiheb_extract_rings[holes.as_mut_ptr(), holes.len()],
         state,
         [],
         slices,

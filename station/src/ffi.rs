@@ -5,15 +5,19 @@
 //! An entry reads and writes within the lengths, whatever the slices hold, and keeps none of the
 //! pointers. It only reads what is `const`.
 
-/// Declares an entry that is lent the five slices, between its other arguments.
+use crate::entries::HoleRecord;
+
+/// Declares an entry that is lent the state and the five slices, between its other arguments: those in
+/// brackets come before the state.
 macro_rules! graph_entry {
     (
-        $name:ident($($before:ident: $before_type:ty),*),
+        $name:ident $([$($first:ident: $first_type:ty),*])? ($($before:ident: $before_type:ty),*),
         $floats:tt floats, $numbers:tt numbers, $stars:tt stars, $marks:tt marks, $ids:tt ids,
         ($($after:ident: $after_type:ty),*)
     ) => {
         extern "C" {
             pub fn $name(
+                $($($first: $first_type,)*)?
                 state: *mut [u16; 3],
                 $($before: $before_type,)*
                 floats: *$floats f64,
@@ -89,7 +93,7 @@ graph_entry!(
 // ---- station_rings
 
 graph_entry!(
-    tukmiheb_extract_rings(),
+    tukmiheb_extract_rings[holes: *mut HoleRecord, holes_length: usize](),
     const floats, const numbers, const stars, const marks, const ids,
     (
         half_edges: *mut u16,
@@ -104,7 +108,7 @@ graph_entry!(
         ring_side_length: usize,
         ring_area: *mut f64,
         ring_area_length: usize,
-        reply: *mut [u16; 7]
+        reply: *mut [u16; 9]
     )
 );
 

@@ -1,6 +1,6 @@
 //! A graph that owns its tables.
 
-use crate::entries::{self, RingLists, Slices};
+use crate::entries::{self, HoleRecord, RingLists, Slices};
 use crate::layout::{
     EDGE_LIMIT, FLOATS, HALF_EDGE_LIMIT, HALF_EDGE_MARKS, IDS, LINE_IDS, MARKS, NODES_X, NODES_Y,
     NODES_Z, NUMBERS, SEGMENTS, SEGMENT_FLOATS, SOURCES, STARS, TARGETS,
@@ -118,7 +118,7 @@ pub struct Census {
 }
 
 impl Census {
-    fn of([nodes, edges, cycles, pieces, euler]: [u16; 5]) -> Self {
+    pub(crate) fn of([nodes, edges, cycles, pieces, euler]: [u16; 5]) -> Self {
         Census {
             nodes,
             edges,
@@ -146,6 +146,7 @@ pub struct Graph {
     slices: OwnedSlices,
     listed: Vec<u16>,
     pub(crate) rings: OwnedRings,
+    pub(crate) holes: Vec<HoleRecord>,
 }
 
 #[derive(Clone, Debug)]
@@ -228,6 +229,8 @@ impl Graph {
             slices: OwnedSlices::new(),
             listed: vec![0; EDGE_LIMIT],
             rings: OwnedRings::new(HALF_EDGE_LIMIT),
+            // There are never more open rings than edges.
+            holes: vec![HoleRecord::default(); EDGE_LIMIT],
         };
         graph.clear();
         graph
@@ -304,18 +307,18 @@ impl Graph {
         })
     }
 
-    /// Extracts the rings of what is unmarked (`Cut` to `Ringed`).
+    /// Extracts the rings of what is unmarked, and which of them are holes of others (`Cut` to
+    /// `Ringed`).
     pub fn extract_rings(&mut self) -> Result<Rings<'_>, Refusal> {
-        let mut reply = [0; 7];
+        let mut reply = [0; 9];
         entries::extract_rings(
+            &mut self.holes,
             &mut self.state,
             &mut self.slices.lend(),
             &mut self.rings.lend(),
             &mut reply,
         )?;
-        let [count, census @ .., comparisons] = reply;
-        let (count, comparisons) = (count.into(), comparisons.into());
-        Ok(Rings::new(self, count, Census::of(census), comparisons))
+        Ok(Rings::new(self, reply))
     }
 
     /// Unmarks everything, in any stage, so that segments can be added again (to `Building`).

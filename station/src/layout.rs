@@ -17,6 +17,9 @@ pub const PAIR_LIMIT: usize = 4096;
 /// No place: it ends a list of line ids.
 pub const LIST_END: u16 = 65_535;
 
+/// No ring: the holder of an open ring that no ring holds.
+pub const OUTSIDE: u16 = 65_535;
+
 pub const HALF_EDGE_LIMIT: usize = 2 * EDGE_LIMIT;
 
 /// The floats of a segment: start x, y, z and end x, y, z.

@@ -32,6 +32,29 @@
 //! assert_eq!(areas(&trace), Ok(vec![6.0]));
 //! ```
 //!
+//! An island is a hole of the compartment around it, and not a second outside:
+//!
+//! ```
+//! use tukmiheb::{Coord3D, Graph, Line3D, Refusal};
+//!
+//! let mut graph = Graph::new();
+//! for (low, high) in [(0.0, 6.0), (2.0, 4.0)] {
+//!     let corners = [(low, low), (high, low), (high, high), (low, high)];
+//!     let corners = corners.map(|(x, y)| Coord3D::new(x, y, 0.0));
+//!     for side in 0..4 {
+//!         graph.add_line(&Line3D::new(corners[side], corners[(side + 1) % 4], 1))?;
+//!     }
+//! }
+//! graph.sort_edges()?;
+//! graph.prune_dangles()?;
+//! graph.delete_cut_edges()?;
+//! let rings = graph.extract_rings()?;
+//! let areas = rings.compartments().map(|compartment| compartment.net_area());
+//! assert!(areas.eq([32.0, 4.0]));
+//! assert_eq!(rings.holes().filter(|hole| hole.holder.is_none()).count(), 1);
+//! # Ok::<(), Refusal>(())
+//! ```
+//!
 //! An edge knows all passes that drew it, by their line ids:
 //!
 //! ```
@@ -59,6 +82,7 @@
 pub mod entries;
 mod ffi;
 mod graph;
+mod holes;
 pub mod layout;
 mod line_ids;
 mod refusal;
@@ -68,6 +92,7 @@ mod segment_file;
 
 pub use graph::{Added, Census, Cuts, Graph, Records, Stage};
 pub use graph::{Coord3D, DirEdgeId, EdgeId, FaceId, Line3D, NodeId};
+pub use holes::{Compartment, Hole};
 pub use line_ids::LineIds;
 pub use refusal::Refusal;
 pub use rings::{Ring, RingSide, Rings};

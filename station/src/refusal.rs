@@ -17,11 +17,12 @@ pub enum Refusal {
     RecordLength = 10,
     RecordKind = 11,
     TooManyPairs = 12,
+    TooFewHoles = 13,
 }
 
 impl Refusal {
     /// All of them, by number.
-    pub const ALL: [Refusal; 12] = [
+    pub const ALL: [Refusal; 13] = [
         Refusal::NotWhole,
         Refusal::SameNode,
         Refusal::TooManyNodes,
@@ -34,9 +35,10 @@ impl Refusal {
         Refusal::RecordLength,
         Refusal::RecordKind,
         Refusal::TooManyPairs,
+        Refusal::TooFewHoles,
     ];
 
-    /// The refusal with a number from 1 to 12.
+    /// The refusal with a number from 1 to 13.
     pub fn from_number(number: u32) -> Option<Refusal> {
         Refusal::ALL
             .into_iter()
@@ -61,6 +63,7 @@ impl Refusal {
             Refusal::RecordLength => "record length",
             Refusal::RecordKind => "record kind",
             Refusal::TooManyPairs => "too many pairs",
+            Refusal::TooFewHoles => "too few holes",
         }
     }
 
@@ -79,6 +82,7 @@ impl Refusal {
             Refusal::RecordLength => "The record's length is not 54.",
             Refusal::RecordKind => "The record's kind is not 1.",
             Refusal::TooManyPairs => "The table of line ids has no space for one more.",
+            Refusal::TooFewHoles => "The hole list has fewer records than there are open rings.",
         }
     }
 }

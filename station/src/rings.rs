@@ -1,13 +1,15 @@
 //! The rings of a graph.
 
 use crate::graph::{Census, Coord3D, DirEdgeId, FaceId, Graph, NodeId};
+use crate::holes::{Compartment, Hole};
 
 /// The side of a ring: what lies to the left of its half-edges.
 #[derive(Clone, Copy, Debug, PartialEq)]
 pub enum RingSide {
-    /// A compartment, with its area.
+    /// The outline of a compartment, with its area.
     Enclosed(f64),
-    /// The unbounded face around a piece of the map, with its area, which is below 0.
+    /// What lies around a piece of the map, with its area, which is below 0. It is a hole of its holder, or
+    /// the one outside where there is none ([`Rings::holes`]).
     Open(f64),
     /// A ring without area.
     Flat,
@@ -20,6 +22,8 @@ pub struct Rings<'a> {
     count: usize,
     census: Census,
     comparisons: usize,
+    half_edges: usize,
+    holes: usize,
 }
 
 /// A ring. It begins with its lowest half-edge.
@@ -30,12 +34,15 @@ pub struct Ring<'a> {
 }
 
 impl<'a> Rings<'a> {
-    pub(crate) fn new(graph: &'a Graph, count: usize, census: Census, comparisons: usize) -> Self {
+    pub(crate) fn new(graph: &'a Graph, reply: [u16; 9]) -> Self {
+        let [count, census @ .., comparisons, half_edges, holes] = reply;
         Rings {
             graph,
-            count,
-            census,
-            comparisons,
+            count: count.into(),
+            census: Census::of(census),
+            comparisons: comparisons.into(),
+            half_edges: half_edges.into(),
+            holes: holes.into(),
         }
     }
 
@@ -56,6 +63,11 @@ impl<'a> Rings<'a> {
         self.comparisons
     }
 
+    /// How many half-edges all rings have together.
+    pub fn half_edge_count(&self) -> usize {
+        self.half_edges
+    }
+
     pub fn len(&self) -> usize {
         self.count
     }
@@ -65,23 +77,40 @@ impl<'a> Rings<'a> {
     }
 
     pub fn get(&self, number: usize) -> Option<Ring<'a>> {
-        let graph = self.graph;
-        (number < self.count).then_some(Ring { graph, number })
+        (number < self.count).then_some(Ring::new(self.graph, number))
     }
 
     pub fn iter(&self) -> impl Iterator<Item = Ring<'a>> {
         let graph = self.graph;
-        (0..self.count).map(move |number| Ring { graph, number })
+        (0..self.count).map(move |number| Ring::new(graph, number))
     }
 
-    /// The enclosed rings, which are the compartments of the map.
+    /// The enclosed rings, which are the outlines of compartments.
     pub fn enclosed(&self) -> impl Iterator<Item = Ring<'a>> {
         self.iter()
             .filter(|ring| matches!(ring.side(), RingSide::Enclosed(_)))
     }
+
+    /// The open rings, each with the ring that holds it.
+    pub fn holes(&self) -> impl Iterator<Item = Hole<'a>> {
+        let graph = self.graph;
+        let records = graph.holes[..self.holes].iter();
+        records.map(move |record| Hole::new(graph, record))
+    }
+
+    /// The compartments of the map, in ring order: each enclosed ring without the islands in it.
+    pub fn compartments(&self) -> impl Iterator<Item = Compartment<'a>> {
+        let rings = *self;
+        self.enclosed()
+            .map(move |ring| Compartment::new(ring, rings))
+    }
 }
 
 impl<'a> Ring<'a> {
+    pub(crate) fn new(graph: &'a Graph, number: usize) -> Self {
+        Ring { graph, number }
+    }
+
     /// Its place among the rings.
     pub fn number(&self) -> usize {
         self.number

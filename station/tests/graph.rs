@@ -207,5 +207,5 @@ fn refusals_have_numbers_names_and_sentences() {
             .starts_with(&format!("refused {number}: ")));
     }
     assert_eq!(Refusal::from_number(0), None);
-    assert_eq!(Refusal::from_number(13), None);
+    assert_eq!(Refusal::from_number(14), None);
 }

@@ -4,7 +4,9 @@ use call_image::image_of;
 use call_image::is_kept;
 use call_lending::Settings;
 use call_list::GraphCall;
+use call_replies::Reply;
 use call_replies::end_line;
+use call_replies::say_holes;
 use call_replies::say_reply;
 use call_replies::say_rings;
 use call_rings::extract;
@@ -15,6 +17,7 @@ use tables::MAX_HALF_EDGES;
 use tables::NUMBERS;
 use tables::PlanarGraph;
 use tables::STARS;
+use tables::wide;
 
 // Any call but the extraction of rings; pruning and cutting list edges where the half-edges of rings go.
 pub fn perform(
@@ -76,7 +79,15 @@ pub fn perform(
     new
 }
 
-// The extraction of rings, with a line for each ring.
+// How many records of the hole list the reply says were written.
+fn holes_said(reply: Reply) -> usize {
+    if let Reply::Rings(_, _, _, _, holes) = reply {
+        return wide(holes);
+    }
+    0
+}
+
+// The extraction of rings, with a line for each ring and a line for each hole.
 pub fn perform_rings(
     settings: Settings,
     floats: &[f64; FLOATS],
@@ -104,7 +115,7 @@ pub fn perform_rings(
         ring_side,
         ring_area,
     );
-    let done = extract(
+    let made = extract(
         settings,
         floats,
         numbers,
@@ -132,10 +143,13 @@ pub fn perform_rings(
         ring_area,
     );
     let old = settings.graph;
+    let done = made.outcome;
     let new = done.graph;
     let reply = done.reply;
+    let list = made.list;
+    let is_said = made.count == holes_said(reply);
     say_reply(reply, half_edges);
-    end_line(is_kept(reply, old, new, &before, &after));
+    end_line(is_said && is_kept(reply, old, new, &before, &after));
     say_rings(
         reply,
         half_edges,
@@ -145,5 +159,6 @@ pub fn perform_rings(
         ring_side,
         ring_area,
     );
+    say_holes(list, made.count);
     new
 }

@@ -184,9 +184,9 @@ pub fn is_kept(
             same_but_half_marks(before, after, new.edge_count)
                 && same_lists(before, after, wide(count), 0)
         }
-        Reply::Rings(count, census, _) => {
+        Reply::Rings(count, _, _, halves, _) => {
             same_part(before, after, 0, HALF_EDGES_AT)
-                && same_lists(before, after, 2 * wide(census.edges), wide(count))
+                && same_lists(before, after, wide(halves), wide(count))
         }
     }
 }

@@ -3,12 +3,13 @@ ghost use Prim.Native.Nat.{_≤_};
 use call_image::lesser;
 use tables::PlanarGraph;
 
-// What the call list sets: the small state, the slice that the next call gets one entry short, and
-// how long the lists are lent.
+// What the call list sets: the small state, the slice that the next call gets one entry short, how
+// long the lists are lent, and how many records the hole list has.
 pub struct Settings {
     pub graph: PlanarGraph,
     pub short: usize,
     pub length: usize,
+    pub holes: usize,
 }
 
 // The slices, in the order of the entries' parameters, and a number for none of them.

@@ -35,6 +35,7 @@ pub enum Call {
     Set(usize, usize, Number),
     Short(usize),
     List(usize),
+    Holes(usize),
     Unknown,
 }
 

@@ -11,10 +11,14 @@ use crate::words::coord_after;
 use crate::words::count_after;
 use crate::words::number_after;
 use geometry::Line3D;
+use tables::MAX_EDGES;
 use tables::MAX_HALF_EDGES;
 
 // A list is lent with a length below this: at most an entry for each half-edge.
 const LENGTHS: u64 = (MAX_HALF_EDGES + 1) as u64;
+
+// The hole list: at most a record for each edge.
+const HOLE_LENGTHS: u64 = (MAX_EDGES + 1) as u64;
 
 // How many state tables there are.
 const TABLES: u64 = 14;
@@ -87,6 +91,17 @@ fn read_length(text: &[u8], before: usize, end: usize) -> Call
     Call::Unknown
 }
 
+// The length of the hole list.
+fn read_holes(text: &[u8], before: usize, end: usize) -> Call
+    requires { ⌜ (before ≤ end) × (end ≤ length (now text)) ⌝ }
+{
+    let records = count_after(text, before, end, HOLE_LENGTHS);
+    if records.clear && records.stop == end {
+        return Call::Holes(records.value as usize);
+    }
+    Call::Unknown
+}
+
 // A call whose name is followed by numbers.
 fn read_numbered(text: &[u8], at: usize, stop: usize, end: usize) -> Call
     requires { ⌜ (at ≤ stop) × (stop ≤ end) × (end ≤ length (now text)) ⌝ }
@@ -105,6 +120,9 @@ fn read_numbered(text: &[u8], at: usize, stop: usize, end: usize) -> Call
     }
     if is_word(text, at, stop, b"list") {
         return read_length(text, stop, end);
+    }
+    if is_word(text, at, stop, b"holes") {
+        return read_holes(text, stop, end);
     }
     Call::Unknown
 }

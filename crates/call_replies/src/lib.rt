@@ -3,11 +3,13 @@ use cycles::Census;
 use tables::EdgeId;
 use tables::PlanarGraph;
 
+mod hole_lines;
 mod printing;
 mod reads;
 mod replies;
 mod show;
 
+pub use hole_lines::say_holes;
 pub use printing::float_bits;
 pub use printing::say;
 pub use reads::byte_number;
@@ -28,7 +30,7 @@ pub enum Reply {
     WasReset,
     Dangles(u16),
     Cuts(u16, Census),
-    Rings(u16, Census, u16),
+    Rings(u16, Census, u16, u16, u16),
     Refused(u64),
 }
 

@@ -3,6 +3,9 @@ ghost use mathlib.Core.Path.{_≡_};
 ghost use lib.Ieee.{binary64, toBits};
 use libc::STDOUT_FILENO;
 
+// The longest signed number: a minus sign and 19 digits.
+const LONGEST: usize = 20;
+
 // What a float is as a whole number.
 enum Whole {
     Is(u64),
@@ -15,6 +18,13 @@ pub fn say(text: &[u8]) {
 
 pub fn say_number(n: u64) {
     io::print_decimal(STDOUT_FILENO, n);
+}
+
+// A number with a minus sign where it is negative.
+pub fn say_signed(n: i64) {
+    let mut text = [0u8; LONGEST];
+    let end = listing_text::put_signed(&mut text, 0, n);
+    say(&text[..end]);
 }
 
 // A text and then a number.

@@ -60,10 +60,12 @@ pub fn say_reply(reply: Reply, listed: &[u16]) {
             say_entries(listed, 0, wide(count));
             say_census(census);
         }
-        Reply::Rings(count, census, comparisons) => {
+        Reply::Rings(count, census, comparisons, halves, holes) => {
             say_labelled(b"rings ", number(count));
             say_census(census);
             say_labelled(b" comparisons ", number(comparisons));
+            say_labelled(b" halves ", number(halves));
+            say_labelled(b" holes ", number(holes));
         }
         Reply::Refused(n) => say_labelled(b"refused ", n),
     }
@@ -145,7 +147,7 @@ pub fn say_rings(
     ring_side: &[u8],
     ring_area: &[f64],
 ) {
-    if let Reply::Rings(count, _, _) = reply {
+    if let Reply::Rings(count, _, _, _, _) = reply {
         say_each_ring(
             wide(count),
             half_edges,

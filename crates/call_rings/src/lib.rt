@@ -1,4 +1,6 @@
-// One call of the extraction of rings, on slices and lists that may be lent short.
+// One call of the extraction of rings, on slices and lists that may be lent short. A slice of records is
+// lent by no rule of the prover, so the entry's core is called: it does all but write the holes, which
+// it hands over.
 use call_lending::Settings;
 use call_lending::first_floats;
 use call_lending::first_numbers;
@@ -10,7 +12,33 @@ use call_lending::share_numbers;
 use call_lending::share_stars;
 use call_replies::Outcome;
 use call_replies::Reply;
-use planar_graph::RingReply;
+use hole_entry::Ringed;
+use hole_entry::RingsReply;
+use holes::Hole;
+use tables::MAX_EDGES;
+
+// What the call did, and the holes that the entry would write.
+pub struct Extraction {
+    pub outcome: Outcome,
+    pub list: [Hole; MAX_EDGES],
+    pub count: usize,
+}
+
+// Its reply in the form that all calls have.
+fn outcome_of(done: Ringed) -> Outcome {
+    let graph = done.graph;
+    let answer = done.reply;
+    match answer {
+        RingsReply::Rings(count, census, comparisons, halves, holes) => Outcome {
+            graph,
+            reply: Reply::Rings(count, census, comparisons, halves, holes),
+        },
+        RingsReply::Refused(why) => Outcome {
+            graph,
+            reply: Reply::Refused(tables::refusal_number(why) as u64),
+        },
+    }
+}
 
 pub fn extract(
     settings: Settings,
@@ -25,11 +53,12 @@ pub fn extract(
     ring_face: &mut [u16],
     ring_side: &mut [u8],
     ring_area: &mut [f64],
-) -> Outcome {
+) -> Extraction {
     let graph = settings.graph;
     let short = settings.short;
     let length = settings.length;
-    let done = planar_graph::extract_rings(
+    let made = hole_entry::extract_core(
+        settings.holes,
         graph,
         share_floats(floats, short),
         share_numbers(numbers, short),
@@ -43,16 +72,12 @@ pub fn extract(
         first_sides(ring_side, length),
         first_floats(ring_area, length),
     );
-    let after = done.graph;
-    let answer = done.reply;
-    match answer {
-        RingReply::Rings(count, census, comparisons) => Outcome {
-            graph: after,
-            reply: Reply::Rings(count, census, comparisons),
-        },
-        RingReply::Refused(why) => Outcome {
-            graph: after,
-            reply: Reply::Refused(tables::refusal_number(why) as u64),
-        },
+    let done = made.ringed;
+    let list = made.list;
+    let outcome = outcome_of(done);
+    Extraction {
+        outcome,
+        list,
+        count: made.count,
     }
 }

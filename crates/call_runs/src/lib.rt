@@ -14,6 +14,7 @@ use libc::STDIN_FILENO;
 use tables::FLOATS;
 use tables::IDS;
 use tables::MARKS;
+use tables::MAX_EDGES;
 use tables::MAX_HALF_EDGES;
 use tables::NUMBERS;
 use tables::PlanarGraph;
@@ -54,6 +55,7 @@ fn run(text: &[u8]) {
         },
         short: NO_SLICE,
         length: MAX_HALF_EDGES,
+        holes: MAX_EDGES,
     };
     let mut at = 0;
     while at < text.len() {

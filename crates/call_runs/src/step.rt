@@ -22,6 +22,7 @@ fn with_graph(settings: Settings, graph: PlanarGraph, short: usize) -> Settings 
         graph,
         short,
         length: settings.length,
+        holes: settings.holes,
     }
 }
 
@@ -72,6 +73,13 @@ fn set_by(call: Call, settings: Settings) -> Settings {
             graph,
             short: settings.short,
             length,
+            holes: settings.holes,
+        },
+        Call::Holes(holes) => Settings {
+            graph,
+            short: settings.short,
+            length: settings.length,
+            holes,
         },
         _ => settings,
     }

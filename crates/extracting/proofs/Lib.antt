@@ -2,4 +2,5 @@
 pub mod Starts
 pub mod Numbering
 pub mod Outcome
+pub mod FacesApart
 pub mod Tallying

@@ -52,12 +52,12 @@ module _ (row source : List ℕ) (xs ys : List Float) (keys₀ keys : List ℕ) 
 -- ---- the lists
 
 -- as many half-edges as twice the edges
-halves-are : (s : State) → halves (arrangement s) ≡ 2 * s .edges
+pub halves-are : (s : State) → halves (arrangement s) ≡ 2 * s .edges
 unfolding arrangement
 halves-are s = refl
 
 -- a list over itself
-over-self : (l : List ℕ) → over l l ≡ l
+pub over-self : (l : List ℕ) → over l l ≡ l
 over-self l = ap (λ r. l ++ r) (drop-of-length-le l {i = length l} (omega arith)) ∙ append-nil l
 
 -- ring i of the lists, as the rules have it

@@ -24,7 +24,7 @@ sizes-sum [] = refl
 sizes-sum (r ∷ rs) = omega (arith, sizes-sum rs, length-append r (flatten rs))
 
 -- a row at the front of a list, cut off it
-front-cut : (row out : List ℕ) (n : ℕ) → n ≡ length row → take n (over row out) ≡ row
+pub front-cut : (row out : List ℕ) (n : ℕ) → n ≡ length row → take n (over row out) ≡ row
 front-cut row out n e = ap (λ k. take k (over row out)) e ∙ take-append-seam row (drop (length row) out)
 
 -- the lengths that are written

@@ -2,6 +2,7 @@
 pub mod Rows
 pub mod KeyLists
 pub mod Rankings
+pub mod FacesApart
 pub mod Places
 pub mod Rings
 pub mod Filled

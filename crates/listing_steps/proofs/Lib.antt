@@ -1,5 +1,4 @@
 -- Laws on areas, on the lists that ring extraction writes, and on the lines.
-pub mod Halving
 pub mod RingTexts
 pub mod Extracted
 pub mod Steps

@@ -7,10 +7,7 @@ use mathlib.Core.Bool.{Bool}
 use mathlib.Core.List.{List, [], _∷_, _++_, map}
 use lib.IntN.{ℤ}
 use lib.Ieee.{Float}
-use lib.ListN.{length, getD, take, length-append, length-map, List·getD-map}
-use lib.Seq.{take-suc}
-use Rattle.lists.specs.Lists.{flatten}
-use Rattle.lists.proofs.Counts.{flatten-append}
+use lib.ListN.{length, getD, length-append}
 use Rattle.rules.specs.Face.{Ring, faceNumber}
 use Rattle.rules.specs.Limits.{limits}
 use Rattle.rules.specs.Lines.{headLine, ringNodes, startingNodes, ringLine}
@@ -19,19 +16,9 @@ use Rattle.listing_text.proofs.Buffers.{written-none, written-row}
 use Rattle.listing_text.proofs.Lengths.{head-short, ring-short}
 use Rattle.rules.specs.Listing.{noRing, lineOf, linesOf}
 use Rattle.listing_steps.specs.Rooms.{linesRoom, listingRoom}
-use Rattle.listing_steps.specs.Shown.{passed, Shown}
-use Rattle.listing_steps.proofs.Halving.{small-mag}
-
--- one ring further
-pub passed-next : (rings : List Ring) (k : ℕ) → k < length rings → passed rings (suc k) ≡ passed rings k + length (getD rings k noRing .halfEdges)
-passed-next rings k h =
-    let hs = map (λ (r : Ring). r .halfEdges) rings in
-    let low : k < length hs = omega (arith, length-map rings (λ (r : Ring). r .halfEdges)) in
-    let here : getD hs k [] ≡ getD rings k noRing .halfEdges = List·getD-map (λ (r : Ring). r .halfEdges) rings k noRing in
-    ap (λ l. length (flatten l)) (take-suc hs k [] low)
-    ∙ ap length (flatten-append (take k hs) (getD hs k [] ∷ []))
-    ∙ length-append (flatten (take k hs)) (getD hs k [] ++ [])
-    ∙ ap (λ n. passed rings k + n) (length-append (getD hs k []) [] ∙ (let z : length (getD hs k []) + 0 ≡ length (getD hs k []) = omega arith in z) ∙ ap length here)
+use Rattle.ring_lists.specs.Shown.{passed, Shown}
+use Rattle.ring_lists.proofs.Halving.{small-mag}
+use Rattle.ring_lists.proofs.Written.{passed-next}
 
 module _ (rings : List Ring) (halfEdges first size face : List ℕ) (area : List Float) (shown : Shown rings halfEdges first size face area) where
   -- no ring is longer than all together

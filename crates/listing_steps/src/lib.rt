@@ -45,7 +45,7 @@ fn put_cut(
     let mut ring_face = [0u16; MAX_HALF_EDGES];
     let mut ring_side = [0u8; MAX_HALF_EDGES];
     let mut ring_area = [0.0f64; MAX_HALF_EDGES];
-    let done = ring_entry::extract_rings(
+    let done = ring_entry::extract_without_holes(
         graph,
         floats,
         numbers,

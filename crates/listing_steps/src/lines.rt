@@ -2,7 +2,6 @@
 ghost use mathlib.Core.Path.{_≡_};
 ghost use mathlib.Core.List.{List};
 ghost use Prim.Native.Nat.{_+_, _<_, _≤_};
-ghost use lib.IntN.{ℤ};
 ghost use lib.ListN.{length, getD};
 ghost use Rattle.rules.specs.Face.{Ring};
 ghost use Rattle.rules.specs.Limits.{limits};
@@ -10,7 +9,8 @@ ghost use Rattle.listing_text.specs.Buffer.{Put};
 ghost use Rattle.listing_text.specs.Rooms.{ringRoom};
 ghost use Rattle.rules.specs.Listing.{lineOf, linesOf};
 ghost use Rattle.listing_steps.specs.Rooms.{linesRoom};
-ghost use Rattle.listing_steps.specs.Shown.{HalfOf, Shown};
+ghost use Rattle.ring_lists.specs.Shown.{Shown};
+use ring_lists::doubled_area;
 use tables::FaceId;
 
 // A number of a table, as it is printed.
@@ -18,14 +18,6 @@ pub fn printed(n: u16) -> u64
     ensures { λ r. ⌜ r ≡ n ⌝ }
 {
     n as u64
-}
-
-// Twice a ring's area. The area is exactly half of a whole number, so nothing is cut off.
-fn doubled_area(area: f64) -> i64
-    requires { ⌜ ((z : ℤ) × HalfOf area z) ⌝ }
-    ensures { λ r. ⌜ ((z : ℤ) → HalfOf area z → r ≡ z) ⌝ }
-{
-    std::num::truncating_f64_to_i64(area + area)
 }
 
 // The line of ring k.

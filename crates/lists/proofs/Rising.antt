@@ -80,7 +80,7 @@ rising-sorted l m e same =
 -- ---- one more member
 
 -- functions that agree on the members
-pub map-agree : (f g : ℕ → ℕ) (l : List ℕ) → ((x : ℕ) → In x l → f x ≡ g x) → map f l ≡ map g l
+pub map-agree : {B : Type 0} (f g : ℕ → B) (l : List ℕ) → ((x : ℕ) → In x l → f x ≡ g x) → map f l ≡ map g l
 map-agree f g [] same = refl
 map-agree f g (x ∷ l) same = ap₂ (λ a r. a ∷ r) (same x (omega (arith, bit-same x x refl))) (map-agree f g l (λ y m. same y (omega arith)))
 

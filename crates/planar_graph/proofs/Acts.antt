@@ -7,7 +7,7 @@ use Rattle.rules.specs.Limits.{limits}
 use Rattle.rules.specs.State.{State, roomy}
 use Rattle.rules.specs.Adding.{Outcome, Nothing, add}
 use Rattle.rules.specs.Stages.{create, created, sort, pruneStep, cutStep, reset}
-use Rattle.rules.specs.Ringing.{ringStep}
+use Rattle.rules.specs.Extraction.{extract}
 use Rattle.rules.specs.Sketch.{Sketch, Call, feed, adding, sorting, pruning, cutting, ringing, resetting}
 use Rattle.rules.specs.Claim.{isRefused, World, call}
 use Rattle.rules.specs.Filing.{Act, single, file, act, acts, fileSegments, feedFile, AllGiven}
@@ -55,7 +55,7 @@ step-turns s k (runs.filed bytes reply t) m =
 step-turns s k (runs.sorted reply t) m = turned sorting k reply t (record {}) (sort limits s) m
 step-turns s k (runs.pruned out reply t written) m = turned (pruning out) k reply t written (pruneStep limits s out) m
 step-turns s k (runs.cut out reply t written) m = turned (cutting out) k reply t written (cutStep limits s out) m
-step-turns s k (runs.extracted out reply t written) m = turned (ringing out) k reply t written (ringStep limits s out) m
+step-turns s k (runs.extracted out reply t written) m = turned (ringing out) k reply t written (extract limits s out) m
 step-turns s k (runs.reset reply t) m = turned resetting k reply t (record {}) (reset limits s) m
 
 -- so a run does what its acts do

@@ -8,7 +8,7 @@ use Rattle.rules.specs.LineIds.{listEnd}
 use Rattle.rules.specs.State.{State}
 use Rattle.rules.specs.Adding.{Outcome, Added, add}
 use Rattle.rules.specs.Stages.{sort, pruneStep, cutStep, reset}
-use Rattle.rules.specs.Ringing.{ringStep}
+use Rattle.rules.specs.Extraction.{extract}
 use Rattle.rules.specs.Sketch.{adding, sorting, pruning, cutting, ringing, resetting}
 use Rattle.rules.specs.Claim.{World, call, emptySketch}
 use Rattle.rules.specs.Filing.{filed, fileSegments}
@@ -49,7 +49,7 @@ step-kept s (runs.filed bytes reply t) log m r =
 step-kept s (runs.sorted reply t) log m r = other t log (sort limits s) (ap (λ o. o .state) m) (call-kept limits small sorting (at s) log r)
 step-kept s (runs.pruned out reply t written) log m r = other t log (pruneStep limits s out) (ap (λ o. o .state) m) (call-kept limits small (pruning out) (at s) log r)
 step-kept s (runs.cut out reply t written) log m r = other t log (cutStep limits s out) (ap (λ o. o .state) m) (call-kept limits small (cutting out) (at s) log r)
-step-kept s (runs.extracted out reply t written) log m r = other t log (ringStep limits s out) (ap (λ o. o .state) m) (call-kept limits small (ringing out) (at s) log r)
+step-kept s (runs.extracted out reply t written) log m r = other t log (extract limits s out) (ap (λ o. o .state) m) (call-kept limits small (ringing out) (at s) log r)
 step-kept s (runs.reset reply t) log m r = other t log (reset limits s) (ap (λ o. o .state) m) (call-kept limits small resetting (at s) log r)
 
 -- so does a run

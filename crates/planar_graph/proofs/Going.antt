@@ -8,7 +8,7 @@ use Rattle.rules.specs.Limits.{limits}
 use Rattle.rules.specs.State.{State}
 use Rattle.rules.specs.Adding.{Outcome}
 use Rattle.rules.specs.Stages.{pruneStep, cutStep}
-use Rattle.rules.specs.Ringing.{ringStep}
+use Rattle.rules.specs.Extraction.{extract}
 use Rattle.rules.specs.Sketch.{adding, sorting, pruning, cutting, ringing, resetting}
 use Rattle.rules.specs.Claim.{isRefused, emptySketch}
 use Rattle.rules.specs.Going.{Spared, Goes, Going}
@@ -54,15 +54,15 @@ module _ (s : State) (g : Going limits s) where
 -- what may follow such a state
 going-on : (s : State) → Going limits s → GoesOn s
 going-on s g = record {
-  traces = λ z dangles edges rings a b c r₁ s₁ e₁ r₂ s₂ found e₂ r₃ s₃ removed e₃ r₄ s₄ written e₄.
-      let t = g .traces z dangles edges rings a b c in
+  traces = λ z dangles edges out a b c d r₁ s₁ e₁ r₂ s₂ found e₂ r₃ s₃ removed e₃ r₄ s₄ written e₄.
+      let t = g .traces z dangles edges out a b c d in
       let p₁ = ap (λ o. o .state) e₁ in
       let p₂ = ap (λ o. o .state) e₂ ∙ ap (λ u. pruneStep limits u dangles .state) p₁ in
       let p₃ = ap (λ o. o .state) e₃ ∙ ap (λ u. cutStep limits u edges .state) p₂ in (
         leads r₁ s₁ (record {}) _ e₁ 1 (t .sorts),
         leads r₂ s₂ found _ (e₂ ∙ ap (λ u. pruneStep limits u dangles) p₁) 2 (t .prunes),
         leads r₃ s₃ removed _ (e₃ ∙ ap (λ u. cutStep limits u edges) p₂) 3 (t .cuts),
-        leads r₄ s₄ written _ (e₄ ∙ ap (λ u. ringStep limits u rings) p₃) 4 (t .extracts),
+        leads r₄ s₄ written _ (e₄ ∙ ap (λ u. extract limits u out) p₃) 4 (t .extracts),
       );
   resets = λ r t e. leads r t (record {}) _ e 0 (g .resets);
   spared = step-spares s g;

@@ -9,13 +9,14 @@ use Rattle.geometry.specs.Reply.{Reply, refused, success}
 use Rattle.rules.specs.State.{State}
 use Rattle.rules.specs.Adding.{Nothing}
 use Rattle.rules.specs.Stages.{Cutting}
-use Rattle.rules.specs.Ringing.{RingLists, Ringing, longEnough}
+use Rattle.rules.specs.Ringing.{longEnough}
+use Rattle.rules.specs.Extraction.{Lent, RingAnswer}
 use Rattle.rules.specs.Claim.{isRefused}
 use Rattle.create_entry.specs.Clause.{Creates}
 use Rattle.sort_entry.specs.Clause.{Sorts}
 use Rattle.prune_entry.specs.Clause.{Prunes}
 use Rattle.cut_entry.specs.Clause.{Cuts}
-use Rattle.ring_entry.specs.Clause.{Extracts}
+use Rattle.hole_entry.specs.Clause.{Extracts}
 use Rattle.reset_entry.specs.Clause.{Resets}
 use Rattle.planar_graph.specs.Runs.{Step, added, filed, sorted, pruned, cut, extracted, reset, Meets, Run, ends}
 
@@ -41,11 +42,12 @@ SparesStep (reset reply s) = Spares reply
 pub record GoesOn (s : State) : Type 0 where
   -- in stage 0: sorting, pruning, cutting and ring extraction in a row, which succeed if the lists lent to them are long enough
   pub traces : s .stage ≡ 0
-      → (dangles edges : List ℕ) (rings : RingLists) → s .edges ≤ length dangles → s .edges ≤ length edges → longEnough (2 * s .edges) rings ≡ true
+      → (dangles edges : List ℕ) (out : Lent)
+      → s .edges ≤ length dangles → s .edges ≤ length edges → longEnough (2 * s .edges) (out .rings) ≡ true → s .edges ≤ length (out .holes)
       → (r₁ : Reply Nothing) (s₁ : State) → Sorts s r₁ s₁
       → (r₂ : Reply ℕ) (s₂ : State) (found : List ℕ) → Prunes s₁ dangles r₂ s₂ found
       → (r₃ : Reply Cutting) (s₃ : State) (removed : List ℕ) → Cuts s₂ edges r₃ s₃ removed
-      → (r₄ : Reply Ringing) (s₄ : State) (written : RingLists) → Extracts s₃ rings r₄ s₄ written
+      → (r₄ : Reply RingAnswer) (s₄ : State) (written : Lent) → Extracts s₃ out r₄ s₄ written
       → Leads 1 r₁ s₁ × Leads 2 r₂ s₂ × Leads 3 r₃ s₃ × Leads 4 r₄ s₄
   -- in every stage, so after these four too: resetting, which succeeds and leads back to stage 0
   pub resets : (r : Reply Nothing) (t : State) → Resets s r t → Leads 0 r t

@@ -1,6 +1,6 @@
 -- A run: calls from a newly created graph, each of which meets the clause that its entry ensures and takes up what the last one left.
 -- Demand 3 is one theorem about runs.
-use Prim.Native.Nat.{ℕ}
+use Prim.Native.Nat.{ℕ, _*_, _≤_}
 use mathlib.Core.Path.{_≡_}
 use mathlib.Core.List.{List, [], _∷_}
 use Rattle.lists.specs.Lists.{upto}
@@ -10,10 +10,11 @@ use Rattle.rules.specs.State.{State, arrangement, pointOf}
 use Rattle.rules.specs.Euler.{census}
 use Rattle.rules.specs.Adding.{Nothing, Added}
 use Rattle.rules.specs.Stages.{Cutting}
-use Rattle.rules.specs.Ringing.{RingLists, Ringing}
+use Rattle.rules.specs.Extraction.{Lent, RingAnswer, holesIn}
 use Rattle.rules.specs.Filing.{fileSegments, feedFile}
 use Rattle.rules.specs.Sketch.{Sketch, pointAt, sketched, feed, adding, sorting, pruning, cutting, ringing, resetting}
-use Rattle.rules.specs.Claim.{isRefused, emptySketch, ringsFrom, RingRules, SideRules, TableRules}
+use Rattle.rules.specs.SketchRings.{sketchHoles}
+use Rattle.rules.specs.Claim.{isRefused, emptySketch, ringsFrom, RingRules, SideRules, TableRules, WrittenRules}
 use Rattle.rules.specs.Naming.{FewComparisons}
 use Rattle.create_entry.specs.Clause.{Creates}
 use Rattle.add_entry.specs.Clause.{Adds}
@@ -23,7 +24,7 @@ use Rattle.sort_entry.specs.Clause.{Sorts}
 use Rattle.prune_entry.specs.Clause.{Prunes}
 use Rattle.cut_entry.specs.Clause.{Cuts}
 use Rattle.extracting.specs.Tallying.{Adding}
-use Rattle.ring_entry.specs.Clause.{Extracts}
+use Rattle.hole_entry.specs.Clause.{Extracts}
 use Rattle.reset_entry.specs.Clause.{Resets}
 
 -- a call of a run, with what came out of it
@@ -33,7 +34,7 @@ pub data Step : Type 0 where
   sorted : Reply Nothing → State → Step
   pruned : List ℕ → Reply ℕ → State → List ℕ → Step
   cut : List ℕ → Reply Cutting → State → List ℕ → Step
-  extracted : RingLists → Reply Ringing → State → RingLists → Step
+  extracted : Lent → Reply RingAnswer → State → Lent → Step
   reset : Reply Nothing → State → Step
 
 -- the state that it left
@@ -85,30 +86,43 @@ sketchFrom k (x ∷ xs) = sketchFrom (feedStep x k) xs
 -- Demand 3. The tables held anything when the graph was created; then came any calls, files and refused ones included. A ring extraction
 -- that succeeds gives exactly the rings of the sketch of the calls before it, in the same order; their doubled areas sum to zero; each
 -- unmarked half-edge is passed once, a marked one never; rings join and stay in their maximal ring; sides and areas are exact. The counts
--- replied are the sketch's, and the tables hold its points, lines and marks.
+-- replied are the sketch's, and the tables hold its points, lines and marks. The hole list written is that of the sketch's rings
+-- (request §2), as long as replied.
 unfoldable pub Demand3 : Type 0
 Demand3 =
     (tables : State) (new : State) (none : Nothing) → Creates tables (success none) new
     → (steps : List Step) → Run new steps
-    → (out written : RingLists) (last : State) (r : Ringing) → Extracts (ends new steps) out (success r) last written
+    → (out written : Lent) (last : State) (r : RingAnswer) → Extracts (ends new steps) out (success r) last written
     → let k = sketchFrom emptySketch steps in
-    let rings = ringsFrom written (upto (r .count)) in
-    RingRules (sketched k) (pointAt k) rings × SideRules (sketched k) (pointAt k) rings written × TableRules k last r
+    let rings = ringsFrom (written .rings) (upto (r .ringing .count)) in
+    RingRules (sketched k) (pointAt k) rings
+    × SideRules (sketched k) (pointAt k) rings (written .rings)
+    × TableRules k last (r .ringing)
+    × WrittenRules rings (sketchHoles k) written r
 
 -- The same of every sound state, by its own edges and marks.
 unfoldable pub Demand3Sound : Type 0
 Demand3Sound =
-    (s last : State) (out written : RingLists) (r : Ringing) → Extracts s out (success r) last written
-    → let rings = ringsFrom written (upto (r .count)) in
-    RingRules (arrangement s) (pointOf s) rings × SideRules (arrangement s) (pointOf s) rings written × (r .census ≡ census (arrangement s))
+    (s last : State) (out written : Lent) (r : RingAnswer) → Extracts s out (success r) last written
+    → let rings = ringsFrom (written .rings) (upto (r .ringing .count)) in
+    RingRules (arrangement s) (pointOf s) rings
+    × SideRules (arrangement s) (pointOf s) rings (written .rings)
+    × (r .ringing .census ≡ census (arrangement s))
+    × WrittenRules rings (holesIn s) written r
 
 -- Naming takes no more than 3 n - 3 comparisons for each ring of n half-edges that is replied, n at least 2, and none for the others.
 unfoldable pub NamingIsShort : Type 0
 NamingIsShort =
-    (s last : State) (out written : RingLists) (r : Ringing) → Extracts s out (success r) last written
-    → FewComparisons (ringsFrom written (upto (r .count))) (r .comparisons)
+    (s last : State) (out written : Lent) (r : RingAnswer) → Extracts s out (success r) last written
+    → FewComparisons (ringsFrom (written .rings) (upto (r .ringing .count))) (r .ringing .comparisons)
 
 -- The tallies of the walks that list the rings add up to the half-edges that are replied (request §3).
 unfoldable pub TalliesAddUp : Type 0
 TalliesAddUp =
-    (s last : State) (out written : RingLists) (r : Ringing) → Extracts s out (success r) last written → Adding written r
+    (s last : State) (out written : Lent) (r : RingAnswer) → Extracts s out (success r) last written → Adding (written .rings) (r .ringing)
+
+-- How much ring extraction writes (request §2): two half-edges for each edge of the census, and no more holes than there are edges.
+unfoldable pub LittleIsWritten : Type 0
+LittleIsWritten =
+    (s last : State) (out written : Lent) (r : RingAnswer) → Extracts s out (success r) last written
+    → (r .halfEdges ≡ 2 * r .ringing .census .edges) × (r .holes ≤ s .edges)

@@ -5,7 +5,7 @@ use mathlib.Core.List.{List, [], _∷_, _++_}
 use Rattle.rules.specs.Adding.{Nothing, Added}
 use Rattle.rules.specs.Euler.{Census}
 use Rattle.rules.specs.Stages.{Cutting}
-use Rattle.rules.specs.Ringing.{Ringing}
+use Rattle.rules.specs.Extraction.{RingAnswer}
 
 -- success alone
 abbrev pub noValues : Nothing → List ℕ
@@ -26,6 +26,6 @@ censusValues n c = n ∷ c .vertices ∷ c .edges ∷ c .cycles ∷ c .pieces �
 abbrev pub cutValues : Cutting → List ℕ
 cutValues a = censusValues (a .count) (a .census)
 
--- the count, the census, and the comparisons of naming
-abbrev pub ringValues : Ringing → List ℕ
-ringValues a = censusValues (a .count) (a .census) ++ (a .comparisons ∷ [])
+-- the count, the census, the comparisons of naming, and how many half-edges and holes were written
+abbrev pub ringValues : RingAnswer → List ℕ
+ringValues a = censusValues (a .ringing .count) (a .ringing .census) ++ (a .ringing .comparisons ∷ a .halfEdges ∷ a .holes ∷ [])

@@ -1,28 +1,29 @@
 // Ring extraction, as a number with the small state and the values written on success.
-ghost use Rattle.ring_entry.specs.Replies.{ringReply};
+ghost use Rattle.hole_entry.specs.Replies.{ringsReply};
 ghost use Rattle.replies.specs.Lent.{Answered};
 ghost use Rattle.replies.specs.Values.{ringValues};
 use crate::small::RINGS_LENGTH;
 use crate::small::STATE_LENGTH;
 use crate::small::flag;
 use crate::small::write_state;
-use ring_entry::RingReply;
-use ring_entry::Ringed;
+use hole_entry::Ringed;
+use hole_entry::RingsReply;
 use tables::refusal_number;
 
-// As for cutting, and the comparisons of naming behind that.
+// As for cutting, and behind that the comparisons of naming, and how many half-edges and holes were
+// written.
 pub fn answer_rings(
     state: &mut [u16; STATE_LENGTH],
     reply: &mut [u16; RINGS_LENGTH],
     done: Ringed,
 ) -> u32
-    ensures { λ r. ⌜ Answered ringValues (ringReply (done .reply)) (done .graph) (now (state .entry)) (now (reply .entry)) r (now (state .exit)) (now (reply .exit)) ⌝ }
+    ensures { λ r. ⌜ Answered ringValues (ringsReply (done .reply)) (done .graph) (now (state .entry)) (now (reply .entry)) r (now (state .exit)) (now (reply .exit)) ⌝ }
 {
     let answer = done.reply;
     let graph = done.graph;
     match answer {
-        RingReply::Refused(why) => refusal_number(why),
-        RingReply::Rings(count, census, comparisons) => {
+        RingsReply::Refused(why) => refusal_number(why),
+        RingsReply::Rings(count, census, comparisons, half_edges, holes) => {
             let verdict = flag(census.verdict);
             *reply = [
                 count,
@@ -32,6 +33,8 @@ pub fn answer_rings(
                 census.pieces,
                 verdict,
                 comparisons,
+                half_edges,
+                holes,
             ];
             write_state(state, graph);
             0

@@ -1,18 +1,17 @@
-// Ring extraction: stage 3 to 4.
+// Ring extraction without the hole list: stage 3 to 4.
+mod checks;
+mod lengths;
+mod regions;
+
+pub use checks::check_rings;
+pub use regions::extract_regions;
 ghost use Rattle.rules.specs.Limits.{limits};
 ghost use Rattle.tables.specs.Regions.{stateIn};
 ghost use Rattle.extracting.specs.Extraction.{listsOf};
 ghost use Rattle.ring_entry.specs.Replies.{ringReply};
 ghost use Rattle.ring_entry.specs.Clause.{Extracts};
-
-mod checks;
-mod lengths;
-mod regions;
-
 use calls::Checked;
-use checks::check_rings;
 use cycles::Census;
-use regions::extract_regions;
 use tables::PlanarGraph;
 use tables::Refusal;
 
@@ -31,7 +30,7 @@ pub struct Ringed {
 
 // Numbers 6, 7, 5 and 8; then the lists get the rings: their half-edges ring by ring, and for each
 // ring its first place, length, face number, side and area. No table is written.
-pub fn extract_rings(
+pub fn extract_without_holes(
     graph: PlanarGraph,
     floats: &[f64],
     numbers: &[u16],

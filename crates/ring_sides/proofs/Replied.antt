@@ -4,7 +4,7 @@ use native.Mathlib.Omega.{arith}
 use mathlib.Core.Path.{_≡_, refl, sym, ap, ap₂, _∙_}
 use mathlib.Core.Bool.{true}
 use mathlib.Core.List.{List, [], map}
-use lib.Ieee.{Float, nan}
+use lib.Ieee.{nan}
 use lib.ListN.{length, getD, drop, length-append, length-map, List·getD-map}
 use Rattle.geometry.specs.Reply.{success}
 use Rattle.lists.specs.Lists.{over}
@@ -14,12 +14,14 @@ use Rattle.rules.specs.Split.{minimalRings}
 use Rattle.rules.specs.Face.{doubledArea}
 use Rattle.rules.specs.State.{State, arrangement, pointOf, sound}
 use Rattle.rules.specs.Ringing.{Ringing, RingLists, sideNumber, sideArea, sideBy, floatArea, ringsOf, ringReplies, ringed, ringStep}
+use Rattle.rules.specs.Extraction.{Lent, RingAnswer}
 use Rattle.rules.proofs.Claims.{each-at}
 use Rattle.rules.proofs.Histories.{fine-limits}
 use Rattle.rules.proofs.Replies.{over-front, rings-of-halves, ring-step-passed}
+use Rattle.rules.proofs.ExtractionLaws.{extraction-rules}
 use Rattle.rings.specs.Sides.{sideOf, sideIn, numberIn, shownIn}
 use Rattle.rings.proofs.Meaning.{sides-exact, sides-replied}
-use Rattle.ring_entry.specs.Clause.{Extracts}
+use Rattle.hole_entry.specs.Clause.{Extracts}
 use Rattle.ring_sides.specs.Sides.{sideAt, sideFrom}
 use Rattle.ring_sides.specs.declared.SideReply.the-variants.{Side}
 use Rattle.ring_sides.proofs.Reading.{side-back, within-lists}
@@ -58,47 +60,59 @@ module _ (s : State) (out : RingLists) where
   rings-many : length (ringsOf s) ≡ length (minimalRings (arrangement s))
   rings-many = sym (length-map (ringsOf s) (λ r. r .halfEdges)) ∙ ap length (rings-of-halves s)
 
-  -- what a successful call left
-  module _ (r : Ringing) (after : State) (written : RingLists) (e : Extracts s out (success r) after written) where
-    -- its state was sound
-    pub was-sound : sound limits s ≡ true
-    was-sound = ring-step-passed limits s out r (sym (ap (λ o. o .reply) e)) .sense
+-- what a successful call left
+module _ (s : State) (out : Lent) (r : RingAnswer) (after : State) (written : Lent) (e : Extracts s out (success r) after written) where
+  -- of the rings it is what the step that finds them leaves
+  found : ringStep limits s (out .rings) ≡ record { reply = success (r .ringing); state = after; lists = written .rings }
+  found =
+      extraction-rules limits s out r (sym (ap (λ o. o .reply) e)) .before
+      ∙ ap (λ o. record { reply = success (r .ringing); state = o .state; lists = o .lists .rings }) (sym e)
 
-    -- it gave what the rules say
-    gave : ringStep limits s out ≡ ringed s out
-    gave = ring-step-passed limits s out r (sym (ap (λ o. o .reply) e)) .gives
+  -- its state was sound
+  pub was-sound : sound limits s ≡ true
+  was-sound = ring-step-passed limits s (out .rings) (r .ringing) (ap (λ o. o .reply) found) .sense
 
-    -- a ring for each number below the count
-    pub counted : r .count ≡ length (minimalRings (arrangement s))
-    counted = ringed-count r (sym (ap (λ o. o .reply) (e ∙ gave))) ∙ rings-many
+  -- it gave what the rules say
+  gave : record { reply = success (r .ringing); state = after; lists = written .rings } ≡ ringed s (out .rings)
+  gave = sym found ∙ ring-step-passed limits s (out .rings) (r .ringing) (ap (λ o. o .reply) found) .gives
 
-    -- the numbers written are those of the rings' sides
-    numbers-are : written .side ≡ over (map (numberIn (s .source) (s .nodeX) (s .nodeY)) (minimalRings (arrangement s))) (out .side)
-    numbers-are = ap (λ o. o .lists .side) (e ∙ gave) ∙ ringed-sides ∙ ap (λ l. over l (out .side)) (sym (sides-replied sideNumber limits fine-limits s was-sound))
+  -- a ring for each number below the count
+  pub counted : r .ringing .count ≡ length (minimalRings (arrangement s))
+  counted = ringed-count s (out .rings) (r .ringing) (sym (ap (λ o. o .reply) gave)) ∙ rings-many s (out .rings)
 
-    -- and so are the areas
-    areas-are : written .area ≡ over (map (shownIn (s .source) (s .nodeX) (s .nodeY)) (minimalRings (arrangement s))) (out .area)
-    areas-are = ap (λ o. o .lists .area) (e ∙ gave) ∙ ringed-areas ∙ ap (λ l. over l (out .area)) (sym (sides-replied sideArea limits fine-limits s was-sound))
+  -- the numbers written are those of the rings' sides
+  numbers-are : written .rings .side ≡ over (map (numberIn (s .source) (s .nodeX) (s .nodeY)) (minimalRings (arrangement s))) (out .rings .side)
+  numbers-are =
+      ap (λ o. o .lists .side) gave ∙ ringed-sides s (out .rings)
+      ∙ ap (λ l. over l (out .rings .side)) (sym (sides-replied sideNumber limits fine-limits s was-sound))
 
-    module _ (i : ℕ) (h : i < r .count) where
-      -- ring i
-      abbrev ring : List ℕ
-      ring = getD (minimalRings (arrangement s)) i []
+  -- and so are the areas
+  areas-are : written .rings .area ≡ over (map (shownIn (s .source) (s .nodeX) (s .nodeY)) (minimalRings (arrangement s))) (out .rings .area)
+  areas-are =
+      ap (λ o. o .lists .area) gave ∙ ringed-areas s (out .rings)
+      ∙ ap (λ l. over l (out .rings .area)) (sym (sides-replied sideArea limits fine-limits s was-sound))
 
-      -- its side, read back from the lists, is the side by the sign of its area
-      pub side-read : sideAt (written .side) (written .area) i ≡ Side (sideIn (s .source) (s .nodeX) (s .nodeY) ring)
-      side-read =
-          let low : i < length (minimalRings (arrangement s)) = omega (arith, counted) in
-          let N = numberIn (s .source) (s .nodeX) (s .nodeY) in
-          let A = shownIn (s .source) (s .nodeX) (s .nodeY) in
-          ap₂ (λ n a. sideAt n a i) numbers-are areas-are
-          ∙ within-lists (over (map N (minimalRings (arrangement s))) (out .side)) (over (map A (minimalRings (arrangement s))) (out .area)) i
-          (ring-place N (minimalRings (arrangement s)) (out .side) i low) (ring-place A (minimalRings (arrangement s)) (out .area) i low)
-          ∙ ap₂ sideFrom (ring-entry N (minimalRings (arrangement s)) (out .side) 0 i low) (ring-entry A (minimalRings (arrangement s)) (out .area) nan i low)
-          ∙ side-back (sideIn (s .source) (s .nodeX) (s .nodeY) ring)
+  module _ (i : ℕ) (h : i < r .ringing .count) where
+    -- ring i
+    abbrev ring : List ℕ
+    ring = getD (minimalRings (arrangement s)) i []
 
-      -- which is the side of the rules, by its doubled area in whole numbers
-      pub side-exact : sideOf (sideIn (s .source) (s .nodeX) (s .nodeY) ring) ≡ sideBy (doubledArea (pointOf s) (arrangement s) ring) (floatArea s ring)
-      side-exact =
-          let low : i < length (minimalRings (arrangement s)) = omega (arith, counted) in
-          each-at _ (minimalRings (arrangement s)) i low (sides-exact limits fine-limits s was-sound)
+    -- its side, read back from the lists, is the side by the sign of its area
+    pub side-read : sideAt (written .rings .side) (written .rings .area) i ≡ Side (sideIn (s .source) (s .nodeX) (s .nodeY) ring)
+    side-read =
+        let low : i < length (minimalRings (arrangement s)) = omega (arith, counted) in
+        let N = numberIn (s .source) (s .nodeX) (s .nodeY) in
+        let A = shownIn (s .source) (s .nodeX) (s .nodeY) in
+        let sides = out .rings .side in
+        let areas = out .rings .area in
+        ap₂ (λ n a. sideAt n a i) numbers-are areas-are
+        ∙ within-lists (over (map N (minimalRings (arrangement s))) sides) (over (map A (minimalRings (arrangement s))) areas) i
+        (ring-place N (minimalRings (arrangement s)) sides i low) (ring-place A (minimalRings (arrangement s)) areas i low)
+        ∙ ap₂ sideFrom (ring-entry N (minimalRings (arrangement s)) sides 0 i low) (ring-entry A (minimalRings (arrangement s)) areas nan i low)
+        ∙ side-back (sideIn (s .source) (s .nodeX) (s .nodeY) ring)
+
+    -- which is the side of the rules, by its doubled area in whole numbers
+    pub side-exact : sideOf (sideIn (s .source) (s .nodeX) (s .nodeY) ring) ≡ sideBy (doubledArea (pointOf s) (arrangement s) ring) (floatArea s ring)
+    side-exact =
+        let low : i < length (minimalRings (arrangement s)) = omega (arith, counted) in
+        each-at _ (minimalRings (arrangement s)) i low (sides-exact limits fine-limits s was-sound)

@@ -15,10 +15,11 @@ use Rattle.rules.specs.Limits.{Limits, Fine, limits}
 use Rattle.rules.specs.LineIds.{listEnd, lowestFree}
 use Rattle.rules.specs.State.{State, roomy, sound}
 use Rattle.rules.specs.Adding.{Outcome, demand, Nothing, Added, add}
-use Rattle.rules.specs.Ringing.{RingLists, Ringing, ringStep}
+use Rattle.rules.specs.Extraction.{Lent, RingAnswer, extract}
 use Rattle.rules.specs.SegmentFile.{end}
 use Rattle.rules.specs.Sketch.{Sketch, Call, adding, pointAt, sketched, feed}
-use Rattle.rules.specs.Claim.{isRefused, call, World, turnWorld, history, emptySketch, ringsFrom, RingRules, SideRules, TableRules, Given64, AllReal, Claim}
+use Rattle.rules.specs.SketchRings.{sketchHoles}
+use Rattle.rules.specs.Claim.{isRefused, call, World, turnWorld, history, emptySketch, ringsFrom, RingRules, SideRules, TableRules, WrittenRules, Given64, AllReal, Claim}
 use Rattle.rules.specs.Going.{Going, NoTracingStops}
 use Rattle.rules.specs.Filing.{Filed, orFiled, filed, feedFile, Act, single, file, act, acts, callsOf, callsIn, EachGiven, AllGiven, FileClaim, NoFileStops}
 use Rattle.lists.proofs.Counts.{true-is-false}
@@ -163,18 +164,19 @@ calls-real l (file gs ∷ xs) w p =
 -- ---- the claims
 
 -- what the claim says of tables and a sketch
-abbrev Holds : Limits → RingLists → Ringing → World → Type 0
+abbrev Holds : Limits → Lent → RingAnswer → World → Type 0
 Holds l out r w =
-    let o = ringStep l (w .state) out in
-    let rings = ringsFrom (o .lists) (upto (r .count)) in
+    let o = extract l (w .state) out in
+    let rings = ringsFrom (o .lists .rings) (upto (r .ringing .count)) in
     o .reply ≡ success r
     → RingRules (sketched (w .sketch)) (pointAt (w .sketch)) rings
-    × SideRules (sketched (w .sketch)) (pointAt (w .sketch)) rings (o .lists)
-    × TableRules (w .sketch) (o .state) r
+    × SideRules (sketched (w .sketch)) (pointAt (w .sketch)) rings (o .lists .rings)
+    × TableRules (w .sketch) (o .state) (r .ringing)
+    × WrittenRules rings (sketchHoles (w .sketch)) (o .lists) r
 
 -- the claim of calls
 call-claim : (l : Limits) → Fine l → (s : State) → s .nodes ≡ 0 → s .edges ≡ 0 → s .stage ≡ 0 → roomy l s ≡ true
-    → (calls : List Call) → AllReal calls → (out : RingLists) (r : Ringing) → Holds l out r (history l calls (record { state = s; sketch = emptySketch }))
+    → (calls : List Call) → AllReal calls → (out : Lent) (r : RingAnswer) → Holds l out r (history l calls (record { state = s; sketch = emptySketch }))
 unfolding Claim
 call-claim l fine s n e z room calls real out r = whole-claim l fine s n e z room calls real out r
 

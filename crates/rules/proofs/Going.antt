@@ -18,6 +18,7 @@ use Rattle.rules.specs.Adding.{Outcome, demand, add}
 use Rattle.rules.specs.Euler.{census}
 use Rattle.rules.specs.Stages.{step, sortedState, sort, danglesOf, prunedState, pruneStep, cutsOf, cutState, cutStep, reset}
 use Rattle.rules.specs.Ringing.{RingLists, longEnough, ringed, ringStep}
+use Rattle.rules.specs.Extraction.{Lent, holesIn, extracted, extract}
 use Rattle.rules.specs.Sketch.{Call, adding, sorting, pruning, cutting, ringing, resetting}
 use Rattle.rules.specs.Claim.{call, World, turnWorld, history, emptySketch}
 use Rattle.rules.specs.Going.{Held, Goes, afterSort, afterPrune, afterCut, Tracing, Going, NoTracingStops, SoundGoes}
@@ -27,6 +28,8 @@ use Rattle.rules.proofs.Soundness.{is-roomy, is-sound}
 use Rattle.rules.proofs.Sounding.{roomy-true, sound-true}
 use Rattle.rules.proofs.AddingSound.{add-steady}
 use Rattle.rules.proofs.PrunedTables.{pruned-roomy, pruned-sound}
+use Rattle.rules.proofs.ExtractionLaws.{ring-step-gives}
+use Rattle.rules.proofs.ShapedRings.{few-holes}
 use Rattle.rules.proofs.Sparing.{call-spared}
 use Rattle.rules.proofs.Staying.{Stays, sorted-stays, cut-stays, ring-stays, reset-stays}
 
@@ -81,7 +84,9 @@ call-stays l small (adding g) s t = add-stays l small g s t
 call-stays l small sorting s t = sort-stays l s t
 call-stays l small (pruning out) s t = prune-stays l s out t
 call-stays l small (cutting out) s t = cut-step-stays l s out t
-call-stays l small (ringing out) s t = step-stays l 3 s out _ t (λ z. demand-stays l (longEnough (2 * s .edges) out) 8 s out _ t (λ e8. ring-stays l s t))
+call-stays l small (ringing out) s t = step-stays l 3 s out _ t (λ z.
+    demand-stays l (longEnough (2 * s .edges) (out .rings)) 8 s out _ t (λ e8.
+    demand-stays l (leb (length (holesIn s)) (length (out .holes))) 13 s out _ t (λ e13. ring-stays l s t)))
 call-stays l small resetting s t =
     demand-stays l (roomy l s) 6 s (record {}) _ t (λ e6. demand-stays l (sound l s) 7 s (record {}) _ t (λ e7. reset-stays l s t))
 
@@ -177,18 +182,29 @@ module _ (l : Limits) (s : State) (h : Held l s) where
   pub cut-went : (out : List ℕ) → s .stage ≡ 2 → s .edges ≤ length out → Went s 3 (cutStep l s out)
   cut-went out z q = subst (Went s 3) (sym (cut-is out z q)) (record { goes = record { succeeds = refl; leads = refl }; edges = refl })
 
-  -- what ring extraction gives
+  -- what the step that finds the rings gives
   ringed-went : (out : RingLists) → Went s 4 (ringed s out)
   unfolding ringed
   ringed-went out = record { goes = record { succeeds = refl; leads = refl }; edges = refl }
 
-  -- ring extraction
-  pub ring-is : (out : RingLists) → s .stage ≡ 3 → longEnough (2 * s .edges) out ≡ true → ringStep l s out ≡ ringed s out
-  unfolding ringStep
-  ring-is out z q = room-is 3 (longEnough (2 * s .edges) out) out (ringed s out) z q
-
   pub ring-went : (out : RingLists) → s .stage ≡ 3 → longEnough (2 * s .edges) out ≡ true → Went s 4 (ringStep l s out)
-  ring-went out z q = subst (Went s 4) (sym (ring-is out z q)) (ringed-went out)
+  ring-went out z q = subst (Went s 4) (sym (ring-step-gives l s out (h .room) (h .sense) z q)) (ringed-went out)
+
+  -- what ring extraction gives
+  extracted-went : (out : Lent) → Went s 4 (extracted s out)
+  unfolding extracted
+  extracted-went out = record { goes = record { succeeds = refl; leads = refl }; edges = refl }
+
+  -- ring extraction, into a hole list with a record for each edge
+  pub extract-is : (out : Lent) → s .stage ≡ 3 → longEnough (2 * s .edges) (out .rings) ≡ true → s .edges ≤ length (out .holes) → extract l s out ≡ extracted s out
+  unfolding extract
+  extract-is out z q n =
+      let few = le-leb (length (holesIn s)) (length (out .holes)) (omega (arith, few-holes l s (h .sense))) in
+      room-is 3 (longEnough (2 * s .edges) (out .rings)) out _ z q
+      ∙ demand-is (leb (length (holesIn s)) (length (out .holes))) 13 s out (extracted s out) few
+
+  pub extract-went : (out : Lent) → s .stage ≡ 3 → longEnough (2 * s .edges) (out .rings) ≡ true → s .edges ≤ length (out .holes) → Went s 4 (extract l s out)
+  extract-went out z q n = subst (Went s 4) (sym (extract-is out z q n)) (extracted-went out)
 
   -- resetting, in every stage
   pub reset-goes : Goes 0 (reset l s)
@@ -199,9 +215,10 @@ module _ (l : Limits) (s : State) (h : Held l s) where
 -- ---- the law
 
 -- the steps one after another
-tracing : (l : Limits) (s : State) → Stays l s → s .stage ≡ 0 → (dangles edges : List ℕ) (rings : RingLists)
-    → s .edges ≤ length dangles → s .edges ≤ length edges → longEnough (2 * s .edges) rings ≡ true → Tracing l s dangles edges rings
-tracing l s t z dangles edges rings a b c =
+tracing : (l : Limits) (s : State) → Stays l s → s .stage ≡ 0 → (dangles edges : List ℕ) (out : Lent)
+    → s .edges ≤ length dangles → s .edges ≤ length edges → longEnough (2 * s .edges) (out .rings) ≡ true → s .edges ≤ length (out .holes)
+    → Tracing l s dangles edges out
+tracing l s t z dangles edges out a b c d =
     let t₁ = sort-stays l s t in
     let t₂ = prune-stays l (afterSort l s) dangles t₁ in
     let t₃ = cut-step-stays l (afterPrune l s dangles) edges t₂ in
@@ -209,7 +226,8 @@ tracing l s t z dangles edges rings a b c =
     let w₂ = prune-went l (afterSort l s) (stays-held l _ t₁) dangles (w₁ .goes .leads) (omega (arith, w₁ .edges)) in
     let w₃ = cut-went l (afterPrune l s dangles) (stays-held l _ t₂) edges (w₂ .goes .leads) (omega (arith, w₁ .edges, w₂ .edges)) in
     let e : s .edges ≡ afterCut l s dangles edges .edges = sym (w₃ .edges ∙ w₂ .edges ∙ w₁ .edges) in
-    let w₄ = ring-went l (afterCut l s dangles edges) (stays-held l _ t₃) rings (w₃ .goes .leads) (subst (λ n. longEnough (2 * n) rings ≡ true) e c) in
+    let w₄ = extract-went l (afterCut l s dangles edges) (stays-held l _ t₃) out (w₃ .goes .leads) (subst (λ n. longEnough (2 * n) (out .rings) ≡ true) e c)
+    (omega (arith, e)) in
     record { sorts = w₁ .goes; prunes = w₂ .goes; cuts = w₃ .goes; extracts = w₄ .goes }
 
 -- from tables that are long enough and sound it goes on

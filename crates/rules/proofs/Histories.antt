@@ -16,13 +16,14 @@ use Rattle.rules.specs.State.{State, pointOf, roomy, sound}
 use Rattle.geometry.specs.declared.Line3D.{Line3D}
 use Rattle.rules.specs.Adding.{Outcome, Added, Nothing, add}
 use Rattle.rules.specs.Stages.{step, next, sortedStar, sort, pruneStep, cutStep, reset}
-use Rattle.rules.specs.Ringing.{RingLists, longEnough, ringStep}
+use Rattle.rules.specs.Ringing.{longEnough}
+use Rattle.rules.specs.Extraction.{Lent, holesIn, extract}
 use Rattle.rules.specs.Sketch.{Sketch, pointAt, Call, adding, sorting, pruning, cutting, ringing, resetting, withLine, sketchAdd, sketchPrune, sketchCut, sketchReset, feed}
 use Rattle.rules.specs.Claim.{isRefused, call, World, turnWorld, history, emptySketch, Claim, Given64, Real, AllReal, SoundClaim}
 use Rattle.rules.proofs.Soundness.{Roomy, Sound, is-roomy, is-sound}
 use Rattle.rules.proofs.Sketches.{Good}
 use Rattle.rules.proofs.SketchCalls.{remark-length, remark-from, remark-to, good-feed, good-empty}
-use Rattle.rules.proofs.Claims.{AllFollow, claim, sound-claim}
+use Rattle.rules.proofs.ExtractionClaims.{AllFollow, claim, sound-claim}
 use Rattle.rules.proofs.Following.{Tracks, remarked, tracks-cut, tracks-reset, tracks-ring}
 use Rattle.rules.proofs.FollowingPrune.{tracks-prune}
 use Rattle.rules.proofs.Sorting.{star-sorted}
@@ -148,13 +149,14 @@ cut-fits l s k out good simple t = step-fits (cutting out) k l 2 s out _ t simpl
     }))
 
 -- ring extraction does
-ring-fits : (l : Limits) (s : State) (k : Sketch) (out : RingLists) → Simple k → Tracks s k → Fits (ringing out) k (ringStep l s out)
-unfolding ringStep feed
+ring-fits : (l : Limits) (s : State) (k : Sketch) (out : Lent) → Simple k → Tracks s k → Fits (ringing out) k (extract l s out)
+unfolding extract feed
 ring-fits l s k out simple t = step-fits (ringing out) k l 3 s out _ t simple (λ room ok stage.
-    demand-fits (ringing out) k (longEnough (2 * s .edges) out) 8 s out _ t simple (λ e8. record {
+    demand-fits (ringing out) k (longEnough (2 * s .edges) (out .rings)) 8 s out _ t simple (λ e8.
+    demand-fits (ringing out) k (leb (length (holesIn s)) (length (out .holes))) 13 s out _ t simple (λ e13. record {
       tracks = tracks-ring s k (omega arith) t;
       simple = simple;
-    }))
+    })))
 
 -- resetting does
 reset-fits : (l : Limits) (s : State) (k : Sketch) → Simple k → Tracks s k → Fits resetting k (reset l s)
@@ -187,7 +189,7 @@ module _ (l : Limits) (fine : Fine l) where
   call-together sorting real w r = together l sorting w (sort l (w .state)) (r .good) (sort-fits l (w .state) (w .sketch) (r .simple) (r .tracks))
   call-together (pruning out) real w r = together l (pruning out) w (pruneStep l (w .state) out) (r .good) (prune-fits l (w .state) (w .sketch) out (r .simple) (r .tracks))
   call-together (cutting out) real w r = together l (cutting out) w (cutStep l (w .state) out) (r .good) (cut-fits l (w .state) (w .sketch) out (r .good) (r .simple) (r .tracks))
-  call-together (ringing out) real w r = together l (ringing out) w (ringStep l (w .state) out) (r .good) (ring-fits l (w .state) (w .sketch) out (r .simple) (r .tracks))
+  call-together (ringing out) real w r = together l (ringing out) w (extract l (w .state) out) (r .good) (ring-fits l (w .state) (w .sketch) out (r .simple) (r .tracks))
   call-together resetting real w r = together l resetting w (reset l (w .state)) (r .good) (reset-fits l (w .state) (w .sketch) (r .simple) (r .tracks))
 
   -- so does a list of calls
@@ -226,7 +228,7 @@ module _ (l : Limits) (fine : Fine l) where
 
   -- the one claim about lists of calls
   pub whole-claim : Claim l
-  whole-claim = claim l (exact-areas l fine) (small-areas l fine) all-follow
+  whole-claim = claim l (exact-areas l fine) (small-areas l fine) (fine .keys) all-follow
 
   -- and the claim for all sound tables
   pub whole-sound-claim : SoundClaim l

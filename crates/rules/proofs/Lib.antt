@@ -25,12 +25,19 @@ pub mod Soundness
 pub mod AddCases
 pub mod Tables
 pub mod Replies
+pub mod ExtractionLaws
 pub mod NamingSteps
 pub mod PointLaws
 pub mod Sketches
 pub mod SketchCalls
 pub mod Claims
 pub mod Areas
+-- holes, and the two claims
+pub mod HoleLaws
+pub mod ShapedRings
+pub mod HolesAgree
+pub mod HolesDrawn
+pub mod ExtractionClaims
 -- the tables follow the sketch, call by call
 pub mod Following
 pub mod Pruning
@@ -96,3 +103,6 @@ pub mod FullTable
 pub mod IdLoops
 pub mod PairsTaken
 pub mod ListTest
+-- a ring and what lies beside it
+pub mod Crossings
+pub mod HoleBoxes

@@ -20,8 +20,10 @@ use Rattle.rules.specs.Naming.{namingComparisons, FewComparisons}
 use Rattle.rules.specs.Limits.{Limits}
 use Rattle.rules.specs.State.{State, arrangement, nodeKey}
 use Rattle.rules.specs.Ringing.{RingLists, Ringing, ringsOf, ringed, ringStep}
+use Rattle.rules.specs.Extraction.{Lent, RingAnswer, extract}
 use Rattle.rules.specs.Claim.{ringsFrom}
-use Rattle.rules.proofs.Replies.{rings-of-halves, ring-step-passed, ring-step-rings}
+use Rattle.rules.proofs.Replies.{rings-of-halves, ring-step-passed}
+use Rattle.rules.proofs.ExtractionLaws.{extraction-rules, extract-rings}
 
 -- of one ring
 few-once : (ks : List Key) → comparisons ks + 3 * bit (leb 2 (length ks)) ≤ 3 * length ks
@@ -55,12 +57,16 @@ ringed-comparisons : (s : State) (out : RingLists) (r : Ringing) → ringed s ou
 unfolding ringed
 ringed-comparisons s out r e = cc
 
+-- of every step that finds the rings and succeeds
+step-comparisons : (l : Limits) (s : State) (out : RingLists) (r : Ringing) → ringStep l s out .reply ≡ success r
+    → r .comparisons ≡ namingComparisons (nodeKey s) (arrangement s) (minimalRings (arrangement s))
+step-comparisons l s out r e =
+    let gives = ring-step-passed l s out r e .gives in
+    ringed-comparisons s out r (ap (λ o. o .reply) (sym gives) ∙ e) ∙ ap (namingComparisons (nodeKey s) (arrangement s)) (rings-of-halves s)
+
 -- of every ring extraction that succeeds, by the rings as they stand in the replied lists
-pub replied-few : (l : Limits) (s : State) (out : RingLists) (r : Ringing) → ringStep l s out .reply ≡ success r
-    → FewComparisons (ringsFrom (ringStep l s out .lists) (upto (r .count))) (r .comparisons)
+pub replied-few : (l : Limits) (s : State) (out : Lent) (r : RingAnswer) → extract l s out .reply ≡ success r
+    → FewComparisons (ringsFrom (extract l s out .lists .rings) (upto (r .ringing .count))) (r .ringing .comparisons)
 replied-few l s out r e =
-    let rings = minimalRings (arrangement s) in
-    let p = ring-step-passed l s out r e in
-    let made : r .comparisons ≡ namingComparisons (nodeKey s) (arrangement s) rings =
-    ringed-comparisons s out r (ap (λ o. o .reply) (sym (p .gives)) ∙ e) ∙ ap (namingComparisons (nodeKey s) (arrangement s)) (rings-of-halves s) in
-    rw (ring-step-rings l s out r e, made) (naming-few (nodeKey s) (arrangement s) rings)
+    let made = step-comparisons l s (out .rings) (r .ringing) (ap (λ o. o .reply) (extraction-rules l s out r e .before)) in
+    rw (extract-rings l s out r e, made) (naming-few (nodeKey s) (arrangement s) (minimalRings (arrangement s)))

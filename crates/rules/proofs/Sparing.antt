@@ -15,7 +15,8 @@ use Rattle.rules.specs.LineIds.{lowestFree}
 use Rattle.rules.specs.State.{State, roomy, sound}
 use Rattle.rules.specs.Adding.{Outcome, demand, Nothing, add}
 use Rattle.rules.specs.Stages.{step, sort, pruneStep, cutStep, reset}
-use Rattle.rules.specs.Ringing.{RingLists, longEnough, ringed, ringStep}
+use Rattle.rules.specs.Ringing.{longEnough}
+use Rattle.rules.specs.Extraction.{Lent, holesIn, extracted, extract}
 use Rattle.rules.specs.Sketch.{Call, adding, sorting, pruning, cutting, ringing, resetting}
 use Rattle.rules.specs.Going.{Held, Spared, SparedCall}
 use Rattle.lists.proofs.Counts.{true-is-false}
@@ -74,17 +75,18 @@ add-spared l g s h =
     (other-spared some 12 s none _ (λ e. omega arith) (λ e. omega arith) (success-spared _ _ refl)))))))
 
 -- what ring extraction gives
-ringed-spared : (s : State) (out : RingLists) → Spared (ringed s out)
-unfolding ringed
-ringed-spared s out = success-spared _ _ refl
+extracted-spared : (s : State) (out : Lent) → Spared (extracted s out)
+unfolding extracted
+extracted-spared s out = success-spared _ _ refl
 
 -- any call
 pub call-spared : (l : Limits) (s : State) → Held l s → (c : Call) → SparedCall l s c
-unfolding sort pruneStep cutStep ringStep reset
+unfolding sort pruneStep cutStep extract reset
 call-spared l s h (adding g) = add-spared l g s h
 call-spared l s h sorting = step-spared l 0 s (record {}) _ h (success-spared _ _ refl)
 call-spared l s h (pruning out) = room-spared l 1 s (leb (s .edges) (length out)) out _ h (success-spared _ _ refl)
 call-spared l s h (cutting out) = room-spared l 2 s (leb (s .edges) (length out)) out _ h (success-spared _ _ refl)
-call-spared l s h (ringing out) = room-spared l 3 s (longEnough (2 * s .edges) out) out (ringed s out) h (ringed-spared s out)
+call-spared l s h (ringing out) = room-spared l 3 s (longEnough (2 * s .edges) (out .rings)) out _ h
+    (other-spared (leb (length (holesIn s)) (length (out .holes))) 13 s out (extracted s out) (λ e. omega arith) (λ e. omega arith) (extracted-spared s out))
 call-spared l s h resetting =
     passed-spared (roomy l s) 6 s (record {}) _ (h .room) (passed-spared (sound l s) 7 s (record {}) _ (h .sense) (success-spared _ _ refl))

@@ -47,7 +47,7 @@ abbrev empty : State
 empty = emptyFor limits
 
 -- result lists that hold anything
-abbrev lists : RingLists
+abbrev pub lists : RingLists
 lists = record {
   halfEdges = replicate (2 * limits .edges) 9;
   first = replicate (2 * limits .edges) 9;
@@ -62,7 +62,7 @@ abbrev pub at : ℤ → ℤ → Coord3D
 at x y = record { x = ofInt binary64 x; y = ofInt binary64 y; z = fin false 0 (pos 0) }
 
 -- the segment from (a, b) to (c, d)
-abbrev line : ℤ → ℤ → ℤ → ℤ → Line3D
+abbrev pub line : ℤ → ℤ → ℤ → ℤ → Line3D
 line a b c d = record { start = at a b; end = at c d; «line_id» = 1 }
 
 -- a reply as whole numbers: -1 and the number of a refusal, or the values of the success
@@ -104,7 +104,7 @@ abbrev prunedFrom : List Line3D → Outcome ℕ (List ℕ)
 prunedFrom gs = pruneStep limits (sortedFrom gs) (replicate (limits .edges) 9)
 
 -- then cut
-abbrev cutFrom : List Line3D → Outcome Cutting (List ℕ)
+abbrev pub cutFrom : List Line3D → Outcome Cutting (List ℕ)
 cutFrom gs = cutStep limits (prunedFrom gs .state) (replicate (limits .edges) 9)
 
 -- what ring extraction says after all of these
@@ -154,7 +154,7 @@ keys (n ∷ ns) = record { x = n; y = 0 } ∷ keys ns
 -- ---- the inputs
 
 -- the listing of document 01
-abbrev triangle : List Line3D
+abbrev pub triangle : List Line3D
 triangle = line (pos 0) (pos 0) (pos 4) (pos 0) ∷ line (pos 4) (pos 0) (pos 0) (pos 3) ∷ line (pos 0) (pos 3) (pos 0) (pos 0) ∷ line (pos 4) (pos 0) (pos 6) (pos 0) ∷ []
 
 -- P5: two triangles that share a corner

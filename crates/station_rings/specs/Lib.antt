@@ -1,2 +1,3 @@
--- What ring extraction leaves for a station.
+-- What ring extraction leaves for a station, and what its core tells.
 pub mod Calls
+pub mod Telling

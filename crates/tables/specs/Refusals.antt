@@ -1,7 +1,7 @@
 -- The documents' number of each refusal.
 use Prim.Native.Nat.{ℕ}
 use Rattle.tables.specs.declared.Refusal.{Refusal}
-use Rattle.tables.specs.declared.Refusal.the-variants.{NotWhole, SameNode, TooManyNodes, TooManyEdges, WrongStage, TableTooShort, Unsound, ListTooShort, TooManyPairs}
+use Rattle.tables.specs.declared.Refusal.the-variants.{NotWhole, SameNode, TooManyNodes, TooManyEdges, WrongStage, TableTooShort, Unsound, ListTooShort, TooManyPairs, TooFewHoles}
 
 abbrev pub refusalNumber : Refusal → ℕ
 refusalNumber NotWhole = 1
@@ -13,3 +13,4 @@ refusalNumber TableTooShort = 6
 refusalNumber Unsound = 7
 refusalNumber ListTooShort = 8
 refusalNumber TooManyPairs = 12
+refusalNumber TooFewHoles = 13

@@ -59,7 +59,7 @@ impl PlanarGraph {
     }
 }
 
-// Why a call is refused, by document 01's numbers 1 to 8 and document 02's 12.
+// Why a call is refused, by document 01's numbers 1 to 8 and document 02's 12 and 13.
 pub enum Refusal {
     NotWhole,
     SameNode,
@@ -70,6 +70,7 @@ pub enum Refusal {
     Unsound,
     ListTooShort,
     TooManyPairs,
+    TooFewHoles,
 }
 
 // The documents' number of a refusal.
@@ -86,6 +87,7 @@ pub fn refusal_number(why: Refusal) -> u32
         Refusal::Unsound => 7,
         Refusal::ListTooShort => 8,
         Refusal::TooManyPairs => 12,
+        Refusal::TooFewHoles => 13,
     }
 }
 

@@ -1,9 +1,10 @@
 //! The calls of a station, phase by phase.
 //!
 //! Each time is the median of many runs, the two sides by turns. The library is called as a station
-//! calls it: every call tests all tables (numbers 6 and 7), and cutting and ring extraction also
-//! count V, E, cycles and C. The original tests nothing and counts nothing here; its determinant is
-//! the stand-in's. "add" is a call for each segment, "add file" one call for the bytes of all.
+//! calls it: every call tests all tables (numbers 6 and 7), cutting and ring extraction also count V,
+//! E, cycles and C, and ring extraction finds the holders of open rings. The original tests nothing,
+//! counts nothing and finds no holders here; its determinant is the stand-in's. "add" is a call for
+//! each segment, "add file" one call for the bytes of all.
 
 use crate::median;
 use oracle::listing;

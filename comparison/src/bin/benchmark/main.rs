@@ -1,15 +1,18 @@
 //! Times the library and the original on the same inputs, in one run.
 //!
 //! `cargo run --release --bin benchmark`. First the calls of a station, phase by phase, then the
-//! listing programs as processes.
+//! listing programs as processes. The last maps are full of islands, where the library also finds the
+//! holder of each and the original does not.
 
 mod calls;
 mod programs;
 
 use comparison::inputs::{self, Segment};
+use comparison::islands;
 use comparison::random::Random;
 use oracle::listing;
 use oracle::original::Line3D;
+use oracle::state::{EDGE_LIMIT, NODE_LIMIT};
 use std::time::Duration;
 
 fn main() {
@@ -33,8 +36,28 @@ fn main() {
     ] {
         calls::measure(name, &lines(map));
     }
+    for (name, map) in full_of_islands() {
+        calls::measure(name, &lines(&map));
+    }
     let files = [("grid 1,024", grid), ("random 1,024", random_1024)];
     programs::measure(&files.map(|(name, map)| (name, file(&lines(&map)))));
+}
+
+/// Maps of as many loops as a graph may have. Every square of the nested ones has all smaller ones inside,
+/// and every sliver's box has others' nodes inside.
+fn full_of_islands() -> [(&'static str, Vec<Segment>); 4] {
+    let squares = (EDGE_LIMIT / 4) as i32;
+    let triangles = ((NODE_LIMIT - 4) / 3) as i32;
+    let slivers = (NODE_LIMIT / 3) as i32;
+    [
+        ("nested in", islands::segments(&islands::nested(squares))),
+        ("nested out", inputs::nested_squares(squares)),
+        (
+            "islands",
+            islands::segments(&islands::triangles_in_a_square(triangles)),
+        ),
+        ("slivers", islands::segments(&islands::slivers(slivers))),
+    ]
 }
 
 /// The first so many segments between nodes that are not joined yet.

@@ -21,7 +21,7 @@ use Rattle.rules.specs.Lines.{headLine}
 use Rattle.ring_entry.specs.Replies.{ringReply}
 use Rattle.rules.specs.Listing.{linesOf}
 use Rattle.listing_steps.specs.Rooms.{linesRoom}
-use Rattle.listing_steps.specs.Shown.{Shown}
+use Rattle.ring_lists.specs.Shown.{Shown}
 use Rattle.listing_steps.proofs.RingTexts.{put-row, head-room}
 use Rattle.listing_steps.proofs.Extracted.{extracted-room, extracted-count, extracted-census, extracted-shown}
 use Rattle.listing_steps.proofs.Steps.{unrefused, ring-room}
@@ -34,33 +34,33 @@ abbrev held : tie.Start → State
 held k = stateIn limits (k .args .graph) (k .args .floats .now) (k .args .numbers .now) (k .args .stars .now) (k .args .marks .now) (k .args .ids .now)
 
 -- the start, from where the rings were extracted
-abbrev entry : tie.After-extract-rings → tie.Start
+abbrev entry : tie.After-extract-without-holes → tie.Start
 entry c = c .before .before .before .before .before .before .before .before .before .before .before .before .before
 
 -- that place, from line one
-abbrev ringed : tie.After-put-head → tie.After-extract-rings
+abbrev ringed : tie.After-put-head → tie.After-extract-without-holes
 ringed c = c .before .before .before .before .before .before .before .before .before .before .before .before .before .before .before .before
 
-slice-aggregate-extract-rings : tie.Need-slice-aggregate-extract-rings
-slice-aggregate-extract-rings c = search needs
+slice-aggregate-extract-without-holes : tie.Need-slice-aggregate-extract-without-holes
+slice-aggregate-extract-without-holes c = search needs
 
-slice-aggregate-extract-rings-2 : tie.Need-slice-aggregate-extract-rings-2
-slice-aggregate-extract-rings-2 c = search needs
+slice-aggregate-extract-without-holes-2 : tie.Need-slice-aggregate-extract-without-holes-2
+slice-aggregate-extract-without-holes-2 c = search needs
 
-slice-aggregate-extract-rings-3 : tie.Need-slice-aggregate-extract-rings-3
-slice-aggregate-extract-rings-3 c = search needs
+slice-aggregate-extract-without-holes-3 : tie.Need-slice-aggregate-extract-without-holes-3
+slice-aggregate-extract-without-holes-3 c = search needs
 
-slice-aggregate-extract-rings-4 : tie.Need-slice-aggregate-extract-rings-4
-slice-aggregate-extract-rings-4 c = search needs
+slice-aggregate-extract-without-holes-4 : tie.Need-slice-aggregate-extract-without-holes-4
+slice-aggregate-extract-without-holes-4 c = search needs
 
-slice-aggregate-extract-rings-5 : tie.Need-slice-aggregate-extract-rings-5
-slice-aggregate-extract-rings-5 c = search needs
+slice-aggregate-extract-without-holes-5 : tie.Need-slice-aggregate-extract-without-holes-5
+slice-aggregate-extract-without-holes-5 c = search needs
 
-slice-aggregate-extract-rings-6 : tie.Need-slice-aggregate-extract-rings-6
-slice-aggregate-extract-rings-6 c = search needs
+slice-aggregate-extract-without-holes-6 : tie.Need-slice-aggregate-extract-without-holes-6
+slice-aggregate-extract-without-holes-6 c = search needs
 
-extract-rings-requires : tie.Need-extract-rings-requires
-extract-rings-requires c κs = search needs
+extract-without-holes-requires : tie.Need-extract-without-holes-requires
+extract-without-holes-requires c κs = search needs
 
 enum-known-reply : tie.Need-enum-known-reply
 enum-known-reply c = search needs
@@ -103,7 +103,7 @@ abbrev answer : tie.After-put-head → Ringing
 answer c = let v = c .before .before .before .before .before .before .before .before .reply .given .0 in record { count = v .0; census = censusOf (v .1 .0); comparisons = v .1 .1 .0 }
 
 -- ring extraction succeeded
-done : (c : tie.After-put-head) → ringReply (ringed c .extract-rings .result .reply) ≡ success (answer c)
+done : (c : tie.After-put-head) → ringReply (ringed c .extract-without-holes .result .reply) ≡ success (answer c)
 done c = ap ringReply (c .before .before .before .before .before .before .before .before .reply .given .1)
 
 -- so the slices have room for their regions
@@ -111,25 +111,25 @@ roomed : (c : tie.After-put-head) → 2 * limits .edges ≤ length (entry (ringe
 unfolding ofBits
 roomed c =
     let a = entry (ringed c) .args in
-    omega (arith, room-of limits (a .graph) (a .floats .now) (a .numbers .now) (a .stars .now) (a .marks .now) (a .ids .now) (extracted-room (held (entry (ringed c))) _ _ _ _ _ (ringed c .extract-rings .ensures) (done c)) .numberRoom)
+    omega (arith, room-of limits (a .graph) (a .floats .now) (a .numbers .now) (a .stars .now) (a .marks .now) (a .ids .now) (extracted-room (held (entry (ringed c))) _ _ _ _ _ (ringed c .extract-without-holes .ensures) (done c)) .numberRoom)
 
 -- and the lists hold the rings
-shown : (c : tie.After-put-head) → let l = ringed c .extract-rings .last in
+shown : (c : tie.After-put-head) → let l = ringed c .extract-without-holes .last in
     Shown (ringsOf (held (entry (ringed c)))) (l .1 .1 .1 .1 .1 .1 .0) (l .1 .1 .1 .1 .1 .1 .1 .0) (l .1 .1 .1 .1 .1 .1 .1 .1 .0) (l .1 .1 .1 .1 .1 .1 .1 .1 .1 .0) (l .1 .1 .1 .1 .1 .1 .1 .1 .1 .1 .1 .0)
 unfolding ofBits
 shown c =
-    let x = ringed c .extract-rings in
+    let x = ringed c .extract-without-holes in
     extracted-shown (held (entry (ringed c))) _ _ _ _ _ (x .ensures) (done c) (x .kept .1 .1 .1 .1 .1 .1 .0) (x .kept .1 .1 .1 .1 .1 .1 .1 .0)
 
 -- as many as were counted
 many : (c : tie.After-put-head) → answer c .count ≡ length (ringsOf (held (entry (ringed c))))
 unfolding ofBits
-many c = extracted-count (held (entry (ringed c))) _ _ _ _ _ (ringed c .extract-rings .ensures) (done c)
+many c = extracted-count (held (entry (ringed c))) _ _ _ _ _ (ringed c .extract-without-holes .ensures) (done c)
 
 -- and with their verdict
 seen : (c : tie.After-put-head) → answer c .census ≡ census (arrangement (held (entry (ringed c))))
 unfolding ofBits
-seen c = extracted-census (held (entry (ringed c))) _ _ _ _ _ (ringed c .extract-rings .ensures) (done c)
+seen c = extracted-census (held (entry (ringed c))) _ _ _ _ _ (ringed c .extract-without-holes .ensures) (done c)
 
 -- line one leaves room for their lines
 head-fits : (c : tie.After-put-head) → c .put-head .result + linesRoom limits ≤ length (c .put-head .last .0)
@@ -175,19 +175,19 @@ unfolding ofBits
 returns-2 c =
     let x = c .before .before .before .before .before .before .before .before in
     let k = entry x in
-    absurd (unrefused _ _ _ _ (x .extract-rings .ensures) (ring-went limits (held k) (k .pre .held) _ (k .pre .here) (ring-room (held k) (k .pre .held) (fin false 0 (pos 0))) .goes .succeeds) _ (ap ringReply (c .enum-told .given .1)))
+    absurd (unrefused _ _ _ _ (x .extract-without-holes .ensures) (ring-went limits (held k) (k .pre .held) _ (k .pre .here) (ring-room (held k) (k .pre .held) (fin false 0 (pos 0))) .goes .succeeds) _ (ap ringReply (c .enum-told .given .1)))
 
 pub put-cut-spec : {M : Type 1} → statement M
 put-cut-spec =
     tie.close
     (tie.spec
-    slice-aggregate-extract-rings
-    slice-aggregate-extract-rings-2
-    slice-aggregate-extract-rings-3
-    slice-aggregate-extract-rings-4
-    slice-aggregate-extract-rings-5
-    slice-aggregate-extract-rings-6
-    extract-rings-requires
+    slice-aggregate-extract-without-holes
+    slice-aggregate-extract-without-holes-2
+    slice-aggregate-extract-without-holes-3
+    slice-aggregate-extract-without-holes-4
+    slice-aggregate-extract-without-holes-5
+    slice-aggregate-extract-without-holes-6
+    extract-without-holes-requires
     enum-known-reply
     printed-requires
     printed-requires-2

@@ -11,7 +11,7 @@ use Rattle.listing_text.proofs.Signs.{back}
 use Rattle.rules.specs.Face.{Ring}
 use Rattle.listing_text.specs.Buffer.{Put}
 use Rattle.rules.specs.Listing.{noRing}
-use Rattle.listing_steps.specs.Shown.{HalfOf, Shown}
+use Rattle.ring_lists.specs.Shown.{HalfOf, Shown}
 use Rattle.listing_steps.proofs.RingTexts.{line-is}
 use borrow.Author.Needs.{needs}
 use Rattle.listing_steps.proofs.lines.put_line.Statement.{statement}

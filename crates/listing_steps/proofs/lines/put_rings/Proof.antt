@@ -7,7 +7,7 @@ use lib.ListN.{length, getD}
 use Rattle.rules.specs.Face.{Ring}
 use Rattle.listing_text.specs.Buffer.{Put}
 use Rattle.rules.specs.Listing.{linesOf}
-use Rattle.listing_steps.specs.Shown.{Shown}
+use Rattle.ring_lists.specs.Shown.{Shown}
 use Rattle.listing_steps.proofs.RingTexts.{no-lines, one-line, line-room}
 use Rattle.listing_steps.proofs.lines.put_rings.Statement.{statement}
 use Rattle.listing_steps.proofs.lines.put_rings.Tie as tie

@@ -1,7 +1,7 @@
 -- `answer_rings` meets its contract.
 use mathlib.Core.Path.{ap}
 use mathlib.Core.List.{[], _∷_}
-use Rattle.ring_entry.specs.Replies.{ringReply}
+use Rattle.hole_entry.specs.Replies.{ringsReply}
 use Rattle.replies.proofs.Replying.{answer-refused, answer-success}
 use borrow.Author.Needs.{needs}
 use Rattle.replies.proofs.rings.answer_rings.Statement.{statement}
@@ -23,7 +23,7 @@ write-state-requires : tie.Need-write-state-requires
 write-state-requires c κs = search needs
 
 returns : tie.Need-returns
-returns c = answer-refused (ap ringReply (c .before .before .answer .given .1)) (c .refusal-number .ensures)
+returns c = answer-refused (ap ringsReply (c .before .before .answer .given .1)) (c .refusal-number .ensures)
 
 returns-2 : tie.Need-returns-2
 returns-2 c =
@@ -31,8 +31,8 @@ returns-2 c =
     let told = flagged .before .before in
     let v = told .answer2 .given .0 in
     let census = v .1 .0 in
-    answer-success (ap ringReply (told .answer2 .given .1)) (c .write-state .ensures)
-    (ap (λ z. v .0 ∷ census .vertices ∷ census .edges ∷ census .cycles ∷ census .pieces ∷ z ∷ v .1 .1 .0 ∷ []) (flagged .flag .ensures))
+    answer-success (ap ringsReply (told .answer2 .given .1)) (c .write-state .ensures)
+    (ap (λ z. v .0 ∷ census .vertices ∷ census .edges ∷ census .cycles ∷ census .pieces ∷ z ∷ v .1 .1 .0 ∷ v .1 .1 .1 .0 ∷ v .1 .1 .1 .1 .0 ∷ []) (flagged .flag .ensures))
 
 pub answer-rings-spec : {M : Type 1} → statement M
 answer-rings-spec =

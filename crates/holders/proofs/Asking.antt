@@ -1,0 +1,213 @@
+-- What is asked of lists and tables is what the steps of the search ask.
+use Prim.Native.Nat.{ℕ, zero, suc, _+_, _*_, _<_, _≤_}
+use native.Mathlib.Omega.{arith}
+use mathlib.Core.Path.{_≡_, refl, sym, ap, subst, _∙_}
+use mathlib.Core.Bool.{Bool}
+use mathlib.Core.List.{List, [], _∷_, _++_, map}
+use lib.ListN.{length, getD, take, drop, replicate, length-map, length-append}
+use lib.Seq.{length-take-le}
+use lib.IntN.{ℤ, pos, negsuc}
+use lib.Ieee.{Float}
+use lib.Dec.{eqb}
+use lib.Signed.{ltZ}
+use borrow.Author.Tests.{lt-ltb, le-ltb}
+use Rattle.lists.specs.Lists.{below, over}
+use Rattle.lists.proofs.Counts.{below-le, bit-le}
+use Rattle.geometry.specs.Coordinate.{coordinateBound, value}
+use Rattle.rules.specs.Limits.{limits}
+use Rattle.rules.specs.Face.{Ring, faceNumber, howMany, faceBefore}
+use Rattle.rules.specs.Ringing.{sideNumber, exactSide}
+use Rattle.rules.specs.Holes.{enclosed, isOpen, ringNodes, ringAt}
+use Rattle.inside.specs.Spots.{Spotted}
+use Rattle.inside.proofs.Tables.{written-within}
+use Rattle.corners.specs.Nodes.{NodesWithin}
+use Rattle.candidates.specs.Candidates.{numbersOf, RingListable, Listable, Candidates}
+use Rattle.candidates.specs.Guesses.{AtMost, Faced}
+use Rattle.holders.specs.Maps.{origins, Map, mapOf, partOf, Laid, Holds}
+use Rattle.holders.specs.Search.{Field}
+use Rattle.holders.specs.Listing.{OpenListed}
+use Rattle.holders.specs.Asked.{Asked, Ready}
+use Rattle.holders.proofs.HoldingLaws.{candidate-ring, nodes-within}
+
+-- ---- of a map in whole numbers
+
+module _ (rs : List Ring) (bound : ℕ) (m : Map) (side : List ℕ) (area : List Float) (count : ℕ) (ready : Ready rs bound m side area count) where
+  -- its enclosed rings can be listed, where there is room for as many as edges
+  pub ready-listable : (rings : List ℕ) (numbers : List ℤ) → limits .edges ≤ length rings → numbersOf * limits .edges ≤ length numbers
+      → Listable rs (m .nodes) (m .xs) (m .ys) (m .first) (m .size) side area count rings numbers
+  ready-listable rings numbers a b = record {
+    counted = ready .counted;
+    inFirst = omega (arith, ready .counted, ready .map .inFirst);
+    inSize = omega (arith, ready .counted, ready .map .inSize);
+    inSide = ready .inSide;
+    inArea = ready .inArea;
+    each = ready .each;
+    inRings = omega (arith, a, ready .fewEnclosed);
+    inNumbers = omega (arith, b, ready .fewEnclosed);
+  }
+
+  module _ (rings : List ℕ) (numbers : List ℤ) (n : ℕ) (listed : Candidates rs (m .nodes) (m .xs) (m .ys) (m .first) (m .size) count rings numbers n) where
+    -- with them the map can be searched
+    pub ready-field : Field rs m bound rings numbers n
+    ready-field = record {
+      map = ready .map;
+      known = omega (arith, ready .fewNodes);
+      candidates = subst (λ k. Candidates rs (m .nodes) (m .xs) (m .ys) (m .first) (m .size) k rings numbers n) (ready .counted) listed;
+    }
+
+    -- and they can be noted by their faces
+    pub ready-faced : (table : List ℕ) → AtMost 0 table → 2 * limits .edges < length table → Faced rings n (m .face) table
+    ready-faced table none long = record {
+      fits = omega (arith, listed .many, below-le (λ i. enclosed (ringAt rs i)) count, ready .few);
+      inRings = listed .inRings;
+      inFace = λ j l. omega (arith, ring j l, ready .map .inFace);
+      inTable = λ j l. omega (arith, ready .faces (getD rings j 0) (omega (arith, ring j l, ready .counted)), ready .few, long);
+      none = none;
+    }
+      where
+        ring : (j : ℕ) → j < n → getD rings j 0 < length rs
+        ring j l = candidate-ring rs m bound rings numbers n ready-field j l .0
+
+-- a table of zeros has nothing noted
+pub zeros-none : (n : ℕ) → AtMost 0 (replicate n 0)
+zeros-none zero k = omega arith
+zeros-none (suc n) zero = omega arith
+zeros-none (suc n) (suc k) = zeros-none n k
+
+-- ---- of the lists that extraction wrote
+
+-- the front of a mapped list before another
+front-map : (f : ℕ → ℕ) (l rest : List ℕ) (size : ℕ) → size ≤ length l → take size (map f l ++ rest) ≡ map f (take size l)
+front-map f l rest zero h = refl
+front-map f [] rest (suc size) h = absurd (omega arith)
+front-map f (x ∷ l) rest (suc size) h = ap (λ r. f x ∷ r) (front-map f l rest size (omega arith))
+
+-- a part of it
+part-map : (f : ℕ → ℕ) (l rest : List ℕ) (first size : ℕ) → first + size ≤ length l → take size (drop first (map f l ++ rest)) ≡ map f (take size (drop first l))
+part-map f l rest zero size h = front-map f l rest size (omega arith)
+part-map f [] rest (suc first) size h = absurd (omega arith)
+part-map f (x ∷ l) rest (suc first) size h = part-map f l rest first size (omega arith)
+
+-- a side tells the sign
+side-enclosed : (z : ℤ) → eqb (sideNumber (exactSide z)) 1 ≡ ltZ (pos 0) z
+unfolding exactSide
+side-enclosed (pos zero) = refl
+side-enclosed (pos (suc n)) = sym (lt-ltb 0 (suc n) (omega arith))
+side-enclosed (negsuc n) = refl
+
+side-open : (z : ℤ) → eqb (sideNumber (exactSide z)) 2 ≡ ltZ z (pos 0)
+unfolding exactSide
+side-open (pos zero) = refl
+side-open (pos (suc n)) = sym (le-ltb (suc n) 0 (omega arith))
+side-open (negsuc n) = refl
+
+-- no more rings come before one than there are
+how-many : (p : Ring → Bool) (rs : List Ring) → howMany p rs ≤ length rs
+how-many p [] = omega arith
+how-many p (r ∷ rs) = omega (arith, how-many p rs, bit-le (p r))
+
+face-few : (rs : List Ring) (r : Ring) → faceNumber rs r ≤ length rs
+unfolding faceNumber
+face-few rs r = how-many (λ s. faceBefore s r) rs
+
+module _ (rs : List Ring) (n : ℕ) (X Y : List Float) (source halfEdges first size face side : List ℕ) (area : List Float) (count : ℕ)
+    (asked : Asked rs n X Y source halfEdges first size face side area count) (oldX oldY : List ℤ) (oldNodes : List ℕ) where
+  -- the tables of whole numbers, and the nodes where the half-edges start
+  abbrev pub xs : List ℤ
+  xs = over (take n (map value X)) oldX
+
+  abbrev pub ys : List ℤ
+  ys = over (take n (map value Y)) oldY
+
+  abbrev pub nodes : List ℕ
+  nodes = over (ringNodes (origins source) halfEdges) oldNodes
+
+  abbrev pub drawn : Map
+  drawn = mapOf source xs ys halfEdges nodes first size face
+
+  -- a list with another in front is at least as long as either
+  spotted : Spotted coordinateBound n xs ys
+  spotted = record {
+    inXs = over-long-front value X oldX n (asked .placed .inXs);
+    inYs = over-long-front value Y oldY n (asked .placed .inYs);
+    nearXs = written-within X oldX n (asked .placed .inXs) coordinateBound (asked .placed .wholeX);
+    nearYs = written-within Y oldY n (asked .placed .inYs) coordinateBound (asked .placed .wholeY);
+  }
+    where
+      over-long-front : (f : Float → ℤ) (l : List Float) (old : List ℤ) (k : ℕ) → k ≤ length l → k ≤ length (over (take k (map f l)) old)
+      over-long-front f l old k h =
+          omega (arith, length-append (take k (map f l)) (drop (length (take k (map f l))) old), length-take-le k (map f l) (omega (arith, h, length-map l f)))
+
+  -- all half-edges have a node
+  nodes-long : length halfEdges ≤ length nodes
+  nodes-long =
+      let row = ringNodes (origins source) halfEdges in
+      omega (arith, length-append row (drop (length row) oldNodes), length-map halfEdges (λ (h : ℕ). getD source h 0))
+
+  -- ring i is laid out
+  laid : (i : ℕ) → i < length rs → Laid rs drawn n i
+  laid i low =
+      let e = asked .shown .each i low in
+      let c = asked .closed i low in
+      record {
+        inHalves = e .inside;
+        inNodes = omega (arith, e .inside, nodes-long);
+        some = omega (arith, e .sized, c .some);
+        halves = e .holds;
+        nodes = part-map (λ h. getD source h 0) halfEdges (drop (length (ringNodes (origins source) halfEdges)) oldNodes) (getD first i 0) (getD size i 0) (e .inside) ∙ ap (ringNodes (origins source)) (e .holds);
+        within = c .within;
+        joined = c .joined;
+        faced = e .faced;
+      }
+
+  -- the map holds the rings
+  holds : Holds rs drawn n
+  holds = record {
+    few = omega (arith, asked .shown .few);
+    inFirst = asked .shown .inFirst;
+    inSize = asked .shown .inSize;
+    inFace = asked .shown .inFace;
+    spotted = spotted;
+    each = laid;
+    apart = asked .apart;
+  }
+
+  -- and each is listed with its side and area
+  listable : (i : ℕ) → i < length rs → RingListable rs nodes xs ys first size side area i
+  listable i low =
+      let l = laid i low in
+      let own : NodesWithin (partOf drawn i nodes) n = subst (λ k. NodesWithin k n) (sym (l .nodes)) (nodes-within (ringAt rs i .halfEdges) source n (l .within)) in
+      record {
+        within = l .inNodes;
+        some = l .some;
+        inXs = λ k m. omega (arith, own k m, spotted .inXs);
+        inYs = λ k m. omega (arith, own k m, spotted .inYs);
+        sided = ap (λ s. eqb s 1) (asked .sided i low) ∙ side-enclosed (ringAt rs i .doubled);
+        halved = asked .shown .each i low .halved;
+      }
+
+  -- the open ones too
+  opens : OpenListed rs side area count
+  opens = record {
+    counted = asked .counted;
+    inSide = omega (arith, asked .counted, asked .inSide);
+    inArea = omega (arith, asked .counted, asked .shown .inArea);
+    sided = λ i l. ap (λ s. eqb s 2) (asked .sided i (omega (arith, l, asked .counted))) ∙ side-open (ringAt rs i .doubled);
+    halved = λ i l. asked .shown .each i (omega (arith, l, asked .counted)) .halved;
+    few = subst (λ k. length (below (λ i. isOpen (ringAt rs i)) k) ≤ limits .edges) (sym (asked .counted)) (asked .fewOpen);
+  }
+
+  pub asked-ready : Ready rs n drawn side area count
+  asked-ready = record {
+    map = holds;
+    fewNodes = asked .placed .few;
+    counted = asked .counted;
+    few = omega (arith, asked .counted, asked .shown .few);
+    inSide = omega (arith, asked .counted, asked .inSide);
+    inArea = omega (arith, asked .counted, asked .shown .inArea);
+    each = λ i l. listable i (omega (arith, l, asked .counted));
+    fewEnclosed = subst (λ k. length (below (λ i. enclosed (ringAt rs i)) k) ≤ limits .edges) (sym (asked .counted)) (asked .fewEnclosed);
+    faces = λ i l. let low : i < length rs = omega (arith, l, asked .counted) in
+        omega (arith, asked .shown .each i low .faced, face-few rs (ringAt rs i), asked .counted);
+    opens = opens;
+  }

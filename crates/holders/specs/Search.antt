@@ -1,0 +1,50 @@
+-- The search for an open ring's holder among the candidates.
+use Prim.Native.Nat.{ℕ, _<_, _≤_}
+use mathlib.Core.Path.{_≡_}
+use mathlib.Core.Bool.{Bool, true, false, _||_}
+use mathlib.Core.List.{List}
+use lib.IntN.{ℤ, pos}
+use lib.ListN.{length, getD}
+use lib.Dec.{eqb, ltb}
+use lib.Signed.{ltZ}
+use Rattle.lists.specs.Lists.{In}
+use Rattle.rules.specs.Face.{Ring}
+use Rattle.rules.specs.Pieces.{thenBy}
+use Rattle.rules.specs.Holes.{outside, ringNodes, ringAt, leftOf, holds, holdsFirst}
+use Rattle.inside.specs.Spots.{spotIn}
+use Rattle.corners.specs.Nodes.{NodesWithin}
+use Rattle.candidates.specs.Candidates.{numberAt, Candidates}
+use Rattle.holders.specs.Maps.{origins, Map, Holds}
+
+-- a map with its candidates
+pub record Field (rs : List Ring) (m : Map) (bound : ℕ) (rings : List ℕ) (numbers : List ℤ) (count : ℕ) : Type 0 where
+  pub map : Holds rs m bound
+  pub known : bound ≤ outside
+  pub candidates : Candidates rs (m .nodes) (m .xs) (m .ys) (m .first) (m .size) (length rs) rings numbers count
+
+-- an open ring with its nodes, and the node of least x, then least y, among them
+pub record Opening (o : Ring) (m : Map) (bound : ℕ) (inner : List ℕ) (x y : ℤ) : Type 0 where
+  pub nodes : inner ≡ ringNodes (origins (m .source)) (o .halfEdges)
+  pub within : NodesWithin inner bound
+  pub corner : ℕ
+  pub one : In corner inner
+  pub first : (n : ℕ) → In n inner → leftOf (spotIn (m .xs) (m .ys)) n corner ≡ false
+  pub isX : x ≡ getD (m .xs) corner (pos 0)
+  pub isY : y ≡ getD (m .ys) corner (pos 0)
+
+-- whether candidate j holds the open ring
+abbrev pub holdsAt : List Ring → Map → Ring → List ℕ → ℕ → Bool
+holdsAt rs m o rings j = holds (spotIn (m .xs) (m .ys)) (origins (m .source)) (ringAt rs (getD rings j 0)) o
+
+-- whether candidate j comes before another by doubled area, then face number, or there is no other
+abbrev pub firstBy : List ℕ → List ℤ → List ℕ → ℕ → ℕ → ℕ → Bool
+firstBy rings numbers face count j best =
+    eqb best count
+    || thenBy (λ i k. ltZ (numberAt numbers i 4) (numberAt numbers k 4)) (λ i k. ltb (getD face (getD rings i 0) 0) (getD face (getD rings k 0) 0)) j best
+
+-- the best of the first j candidates that hold the open ring; count where none does
+pub record Best (rs : List Ring) (m : Map) (o : Ring) (rings : List ℕ) (count j best : ℕ) : Type 0 where
+  pub low : best ≤ count
+  pub none : best ≡ count → (i : ℕ) → i < j → holdsAt rs m o rings i ≡ false
+  pub holder : best < count → holdsAt rs m o rings best ≡ true
+  pub first : best < count → (i : ℕ) → i < j → holdsAt rs m o rings i ≡ true → holdsFirst rs (getD rings i 0) (getD rings best 0) ≡ false

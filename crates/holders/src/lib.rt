@@ -1,0 +1,139 @@
+// Holes: for each open ring the enclosed ring that holds it, all in whole numbers (document 02, §2).
+ghost use mathlib.Core.Path.{_≡_};
+ghost use mathlib.Core.List.{List, map};
+ghost use Prim.Native.Nat.{ℕ, _<_, _≤_};
+ghost use lib.ListN.{length, getD, take};
+ghost use Rattle.lists.specs.Lists.{over};
+ghost use Rattle.rules.specs.Limits.{limits};
+ghost use Rattle.rules.specs.State.{pointIn};
+ghost use Rattle.rules.specs.Face.{Ring};
+ghost use Rattle.rules.specs.Holes.{holesOf, ringNodes};
+ghost use Rattle.holes.specs.Lent.{holeOf};
+ghost use Rattle.inside.specs.Spots.{spotIn};
+ghost use Rattle.holders.specs.Maps.{origins, mapOf};
+ghost use Rattle.holders.specs.Asked.{Asked, Ready};
+
+mod holding;
+mod listing;
+mod search;
+
+use candidates::CANDIDATE_NUMBERS;
+use candidates::list_enclosed;
+use candidates::order_by_face;
+use inside::write_whole;
+pub use listing::HoleList;
+use listing::list_holes;
+use tables::MAX_EDGES;
+use tables::MAX_HALF_EDGES;
+use tables::MAX_NODES;
+use tables::wide;
+
+// A face number is at most the count of rings, of which there are no more than half-edges.
+const FACES: usize = MAX_HALF_EDGES + 1;
+
+// The node where each of the half-edges starts.
+fn write_nodes(half_edges: &[u16], dir_edges_src: &[u16], nodes: &mut [u16])
+    requires { ⌜ (length (now «half_edges») ≤ length (now nodes)) × ((k : ℕ) → k < length (now «half_edges») → getD (now «half_edges») k 0 < length (now «dir_edges_src»)) ⌝ }
+    ensures { λ _. ⌜ now (nodes .exit) ≡ over (ringNodes (origins (now («dir_edges_src» .entry))) (now («half_edges» .entry))) (now (nodes .entry)) ⌝ }
+{
+    let mut k = 0;
+    while k < half_edges.len() {
+        nodes[k] = dir_edges_src[wide(half_edges[k])];
+        k += 1;
+    }
+}
+
+// A record for each open ring of a map in whole numbers: the enclosed rings get boxes, so that few of
+// them are tested.
+fn holes_of_map(
+    ring_count: u16,
+    ring_side: &[u8],
+    ring_area: &[f64],
+    half_edges: &[u16],
+    nodes: &[u16],
+    ring_first: &[u16],
+    ring_length: &[u16],
+    ring_face: &[u16],
+    dir_edges_src: &[u16],
+    xs: &[i64],
+    ys: &[i64],
+) -> HoleList
+    requires { ⌜ ((rs : List Ring) × (bound : ℕ) × Ready rs bound (mapOf (now «dir_edges_src») (now xs) (now ys) (now «half_edges») (now nodes) (now «ring_first») (now «ring_length») (now «ring_face»)) (now «ring_side») (now «ring_area») «ring_count») ⌝ }
+    ensures holes { λ r. ⌜ ((rs : List Ring) (bound : ℕ) → Ready rs bound (mapOf (now («dir_edges_src» .entry)) (now (xs .entry)) (now (ys .entry)) (now («half_edges» .entry)) (now (nodes .entry)) (now («ring_first» .entry)) (now («ring_length» .entry)) (now («ring_face» .entry))) (now («ring_side» .entry)) (now («ring_area» .entry)) «ring_count»
+        → map holeOf (take (r .count) (r .list)) ≡ holesOf (spotIn (now (xs .entry)) (now (ys .entry))) (origins (now («dir_edges_src» .entry))) rs) ⌝ }
+    ensures few { λ r. ⌜ (r .count ≤ limits .edges) × (length (r .list) ≡ limits .edges) ⌝ }
+{
+    let mut rings = [0u16; MAX_EDGES];
+    let mut numbers = [0i64; CANDIDATE_NUMBERS];
+    let count = list_enclosed(
+        ring_count,
+        nodes,
+        xs,
+        ys,
+        ring_first,
+        ring_length,
+        ring_side,
+        ring_area,
+        &mut rings,
+        &mut numbers,
+    );
+    let mut by_face = [0u16; FACES];
+    order_by_face(&rings, count, ring_face, &mut by_face);
+    list_holes(
+        ring_count,
+        ring_side,
+        ring_area,
+        count,
+        &rings,
+        &numbers,
+        &by_face,
+        half_edges,
+        nodes,
+        ring_first,
+        ring_length,
+        ring_face,
+        dir_edges_src,
+        xs,
+        ys,
+    )
+}
+
+// A record for each open ring of the lists, in ring order. Coordinates become whole numbers once.
+pub fn find_holes(
+    node_count: u16,
+    nodes_x: &[f64],
+    nodes_y: &[f64],
+    dir_edges_src: &[u16],
+    half_edges: &[u16],
+    ring_count: u16,
+    ring_first: &[u16],
+    ring_length: &[u16],
+    ring_face: &[u16],
+    ring_side: &[u8],
+    ring_area: &[f64],
+) -> HoleList
+    requires { ⌜ ((rs : List Ring) × Asked rs «node_count» (now «nodes_x») (now «nodes_y») (now «dir_edges_src») (now «half_edges») (now «ring_first») (now «ring_length») (now «ring_face») (now «ring_side») (now «ring_area») «ring_count») ⌝ }
+    ensures holes { λ r. ⌜ ((rs : List Ring) → Asked rs «node_count» (now («nodes_x» .entry)) (now («nodes_y» .entry)) (now («dir_edges_src» .entry)) (now («half_edges» .entry)) (now («ring_first» .entry)) (now («ring_length» .entry)) (now («ring_face» .entry)) (now («ring_side» .entry)) (now («ring_area» .entry)) «ring_count»
+        → map holeOf (take (r .count) (r .list)) ≡ holesOf (pointIn (now («nodes_x» .entry)) (now («nodes_y» .entry))) (origins (now («dir_edges_src» .entry))) rs) ⌝ }
+    ensures few { λ r. ⌜ (r .count ≤ limits .edges) × (length (r .list) ≡ limits .edges) ⌝ }
+{
+    let mut xs = [0i64; MAX_NODES];
+    let mut ys = [0i64; MAX_NODES];
+    write_whole(nodes_x, wide(node_count), &mut xs);
+    write_whole(nodes_y, wide(node_count), &mut ys);
+    let mut nodes = [0u16; MAX_HALF_EDGES];
+    write_nodes(half_edges, dir_edges_src, &mut nodes);
+    holes_of_map(
+        ring_count,
+        ring_side,
+        ring_area,
+        half_edges,
+        &nodes,
+        ring_first,
+        ring_length,
+        ring_face,
+        dir_edges_src,
+        &xs,
+        &ys,
+    )
+}

@@ -1,0 +1,149 @@
+// The holes: a record for each open ring, in ring order.
+ghost use mathlib.Core.Path.{_≡_};
+ghost use mathlib.Core.List.{List, map};
+ghost use Prim.Native.Nat.{ℕ, _<_, _≤_};
+ghost use lib.ListN.{length, getD, take};
+ghost use Rattle.rules.specs.Limits.{limits};
+ghost use Rattle.rules.specs.Face.{Ring};
+ghost use Rattle.rules.specs.Holes.{ringAt, holderOf, holesOf};
+ghost use Rattle.holes.specs.Lent.{holeOf};
+ghost use Rattle.inside.specs.Spots.{spotIn};
+ghost use Rattle.candidates.specs.Guesses.{AtMost};
+ghost use Rattle.holders.specs.Maps.{origins, mapOf};
+ghost use Rattle.holders.specs.Holding.{Stamps};
+ghost use Rattle.holders.specs.Search.{Field};
+ghost use Rattle.holders.specs.Listing.{OpenListed};
+use crate::search::best_holder;
+use candidates::guess_holder;
+use candidates::sides_at;
+use holes::Hole;
+use holes::no_holes;
+use ring_lists::OPEN;
+use ring_lists::doubled_area;
+use tables::MAX_EDGES;
+use tables::MAX_NODES;
+use tables::wide;
+
+// The holder of a ring that no ring holds: the one outside.
+const OUTSIDE: u16 = 65535;
+
+// Records, and how many of them are holes.
+pub struct HoleList {
+    pub list: [Hole; MAX_EDGES],
+    pub count: usize,
+}
+
+// The number of the ring that holds a ring.
+fn holder_of(
+    ring: u16,
+    faces: usize,
+    count: usize,
+    rings: &[u16],
+    numbers: &[i64],
+    by_face: &[u16],
+    half_edges: &[u16],
+    nodes: &[u16],
+    ring_first: &[u16],
+    ring_length: &[u16],
+    ring_face: &[u16],
+    dir_edges_src: &[u16],
+    xs: &[i64],
+    ys: &[i64],
+    stamps: &mut [u16],
+) -> u16
+    requires { ⌜ ((rs : List Ring) × (bound : ℕ) × Field rs (mapOf (now «dir_edges_src») (now xs) (now ys) (now «half_edges») (now nodes) (now «ring_first») (now «ring_length») (now «ring_face»)) bound (now rings) (now numbers) count × Stamps rs (now «dir_edges_src») bound (now stamps) × (ring < length rs)) ⌝ }
+    requires { ⌜ AtMost count (now «by_face») × (getD (now «ring_face») ring 0 ≤ faces) × (faces ≤ length (now «by_face»)) ⌝ }
+    ensures holder { λ r. ⌜ ((rs : List Ring) (bound : ℕ) → Field rs (mapOf (now («dir_edges_src» .entry)) (now (xs .entry)) (now (ys .entry)) (now («half_edges» .entry)) (now (nodes .entry)) (now («ring_first» .entry)) (now («ring_length» .entry)) (now («ring_face» .entry))) bound (now (rings .entry)) (now (numbers .entry)) count → ring < length rs → r ≡ holderOf (spotIn (now (xs .entry)) (now (ys .entry))) (origins (now («dir_edges_src» .entry))) rs (ringAt rs ring)) ⌝ }
+    ensures stamps { λ _. ⌜ ((rs : List Ring) (bound : ℕ) → Field rs (mapOf (now («dir_edges_src» .entry)) (now (xs .entry)) (now (ys .entry)) (now («half_edges» .entry)) (now (nodes .entry)) (now («ring_first» .entry)) (now («ring_length» .entry)) (now («ring_face» .entry))) bound (now (rings .entry)) (now (numbers .entry)) count → Stamps rs (now («dir_edges_src» .entry)) bound (now (stamps .entry)) → Stamps rs (now («dir_edges_src» .entry)) bound (now (stamps .exit))) ⌝ }
+{
+    let i = wide(ring);
+    let sides = sides_at(ring, nodes, xs, ys, ring_first, ring_length);
+    let corner = wide(sides.left);
+    let x = xs[corner];
+    let y = ys[corner];
+    let guess = guess_holder(ring_face[i], faces, by_face, numbers, count, x, y);
+    let first = wide(ring_first[i]);
+    let end = first + wide(ring_length[i]);
+    let best = best_holder(
+        guess,
+        &nodes[first..end],
+        x,
+        y,
+        count,
+        rings,
+        numbers,
+        half_edges,
+        nodes,
+        ring_first,
+        ring_length,
+        ring_face,
+        dir_edges_src,
+        xs,
+        ys,
+        stamps,
+    );
+    if best == count {
+        return OUTSIDE;
+    }
+    rings[best]
+}
+
+// A record for each open ring.
+pub fn list_holes(
+    ring_count: u16,
+    ring_side: &[u8],
+    ring_area: &[f64],
+    count: usize,
+    rings: &[u16],
+    numbers: &[i64],
+    by_face: &[u16],
+    half_edges: &[u16],
+    nodes: &[u16],
+    ring_first: &[u16],
+    ring_length: &[u16],
+    ring_face: &[u16],
+    dir_edges_src: &[u16],
+    xs: &[i64],
+    ys: &[i64],
+) -> HoleList
+    requires { ⌜ ((rs : List Ring) × (bound : ℕ) × Field rs (mapOf (now «dir_edges_src») (now xs) (now ys) (now «half_edges») (now nodes) (now «ring_first») (now «ring_length») (now «ring_face»)) bound (now rings) (now numbers) count × OpenListed rs (now «ring_side») (now «ring_area») «ring_count» × (bound ≤ limits .nodes)) ⌝ }
+    requires { ⌜ AtMost count (now «by_face») × ((i : ℕ) → i < «ring_count» → getD (now «ring_face») i 0 ≤ «ring_count») × («ring_count» ≤ length (now «by_face»)) ⌝ }
+    ensures holes { λ r. ⌜ ((rs : List Ring) (bound : ℕ) → Field rs (mapOf (now («dir_edges_src» .entry)) (now (xs .entry)) (now (ys .entry)) (now («half_edges» .entry)) (now (nodes .entry)) (now («ring_first» .entry)) (now («ring_length» .entry)) (now («ring_face» .entry))) bound (now (rings .entry)) (now (numbers .entry)) count → OpenListed rs (now («ring_side» .entry)) (now («ring_area» .entry)) «ring_count» → bound ≤ limits .nodes → map holeOf (take (r .count) (r .list)) ≡ holesOf (spotIn (now (xs .entry)) (now (ys .entry))) (origins (now («dir_edges_src» .entry))) rs) ⌝ }
+    ensures few { λ r. ⌜ (r .count ≤ limits .edges) × (length (r .list) ≡ limits .edges) ⌝ }
+{
+    let mut list = no_holes();
+    let mut stamps = [0u16; MAX_NODES];
+    let mut k = 0;
+    let mut i: u16 = 0;
+    while i < ring_count {
+        let ring = wide(i);
+        if ring_side[ring] == OPEN {
+            let holder = holder_of(
+                i,
+                wide(ring_count),
+                count,
+                rings,
+                numbers,
+                by_face,
+                half_edges,
+                nodes,
+                ring_first,
+                ring_length,
+                ring_face,
+                dir_edges_src,
+                xs,
+                ys,
+                &mut stamps,
+            );
+            let doubled = doubled_area(ring_area[ring]);
+            list[k] = Hole {
+                ring: i,
+                holder,
+                doubled,
+            };
+            k += 1;
+        }
+        i += 1;
+    }
+    HoleList { list, count: k }
+}

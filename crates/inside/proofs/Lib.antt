@@ -1,0 +1,6 @@
+-- Integers in signed 64 bits, how a line stands to a point, and the walk around a ring.
+pub mod Words
+pub mod Turns
+pub mod Meetings
+pub mod Parity
+pub mod Tables

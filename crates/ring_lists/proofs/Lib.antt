@@ -1,0 +1,3 @@
+-- Laws on areas and on the lists that ring extraction writes.
+pub mod Halving
+pub mod Written

@@ -1,0 +1,2 @@
+-- Rings as they stand in the lists that ring extraction writes.
+pub mod Shown
