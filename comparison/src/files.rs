@@ -6,9 +6,10 @@ use oracle::listing;
 use oracle::original::Line3D;
 use oracle::state::{Call, Lent, Reply, Side, State};
 use oracle::Oracle;
+use tukmiheb::entries::FILE_LENGTH;
 
 /// How many records were taken and the number of what ended it, or the refusal of the call.
-pub type Answer = Result<[u64; 2], u32>;
+pub type Answer = Result<[u64; FILE_LENGTH], u32>;
 
 fn add_file(state: &mut State, bytes: &[u8], lent: &Lent) -> Answer {
     let mut small = [state.nodes, state.edges, state.stage];

@@ -3,7 +3,10 @@
 use crate::lists::{lend_lists, LentLists};
 use crate::slices::{flag, Packed};
 use oracle::state::{Call, Census, Lent, Reply, Side, State};
-use tukmiheb::entries::{self, Slices};
+use tukmiheb::entries::{
+    self, Slices, ADDED_LENGTH, CENSUS_LENGTH, COUNT_LENGTH, FILE_LENGTH, RINGS_LENGTH,
+    STATE_LENGTH,
+};
 use tukmiheb::Refusal;
 
 /// The library, with tables and lists that the comparison can look into. For each call the tables
@@ -47,15 +50,15 @@ impl Side for Library {
 }
 
 /// Room for the longest reply and an entry past it, which has to stay.
-type Numbers = [u16; 10];
+type Numbers = [u16; RINGS_LENGTH + 1];
 
 /// What the library never answers.
-const UNWRITTEN: Numbers = [u16::MAX; 10];
+const UNWRITTEN: Numbers = [u16::MAX; RINGS_LENGTH + 1];
 
 /// Makes a call on what is lent to it.
 pub fn answer(
     call: &Call,
-    state: &mut [u16; 3],
+    state: &mut [u16; STATE_LENGTH],
     slices: &mut Slices,
     lists: LentLists,
 ) -> Result<Reply, Refusal> {
@@ -68,7 +71,7 @@ pub fn answer(
 
 fn made(
     call: &Call,
-    state: &mut [u16; 3],
+    state: &mut [u16; STATE_LENGTH],
     slices: &mut Slices,
     mut lists: LentLists,
     reply: &mut Numbers,
@@ -102,10 +105,10 @@ pub fn front<T, const LENGTH: usize>(reply: &mut [T]) -> &mut [T; LENGTH] {
 fn reply_length(call: &Call) -> usize {
     match call {
         Call::Create | Call::Sort | Call::Reset => 0,
-        Call::Prune => 1,
-        Call::Add(_) => 2,
-        Call::Cut => 6,
-        Call::Rings => 9,
+        Call::Prune => COUNT_LENGTH,
+        Call::Add(_) => ADDED_LENGTH,
+        Call::Cut => CENSUS_LENGTH,
+        Call::Rings => RINGS_LENGTH,
     }
 }
 
@@ -144,13 +147,13 @@ fn census([vertices, edges, cycles, pieces, verdict]: [u16; 5]) -> Census {
 /// Adds the records of a file: how many were taken, and the number of what ended it.
 pub fn answer_file(
     bytes: &[u8],
-    state: &mut [u16; 3],
+    state: &mut [u16; STATE_LENGTH],
     slices: &mut Slices,
-) -> Result<[u64; 2], Refusal> {
-    const UNWRITTEN: [u64; 3] = [u64::MAX; 3];
+) -> Result<[u64; FILE_LENGTH], Refusal> {
+    const UNWRITTEN: [u64; FILE_LENGTH + 1] = [u64::MAX; FILE_LENGTH + 1];
     let mut reply = UNWRITTEN;
     let answered = entries::add_records(state, bytes, slices, front(&mut reply));
-    let written = answered.map_or(0, |()| 2);
+    let written = answered.map_or(0, |()| FILE_LENGTH);
     assert_eq!(reply[written..], UNWRITTEN[written..], "a file");
     let [taken, number, _] = reply;
     answered.map(|()| [taken, number])

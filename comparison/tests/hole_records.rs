@@ -8,7 +8,7 @@ use oracle::calls::Line;
 use oracle::state::{Call, Hole, Lent, Reply, Side, State, HOLE_LIST_LENGTH, OUTSIDE};
 use oracle::Oracle;
 use std::mem::{align_of, offset_of, size_of};
-use tukmiheb::entries::{self, HoleRecord};
+use tukmiheb::entries::{self, HoleRecord, RINGS_LENGTH};
 use tukmiheb::{Coord3D, Graph, Line3D, Refusal};
 
 /// The state of a map in stage 3, over tables that hold other things.
@@ -44,7 +44,7 @@ fn extract_into(words: &mut [[u64; 2]], state: &State) -> Result<usize, Refusal>
     let mut small = [state.nodes, state.edges, state.stage];
     let mut packed = Packed::of(&state.tables);
     let mut lists = state.lists.clone();
-    let mut reply = [0; 9];
+    let mut reply = [0; RINGS_LENGTH];
     let length = words.len() - 2;
     // SAFETY: a record has the size and the alignment of two words, and all bits make one.
     let holes = unsafe {

@@ -7,6 +7,7 @@ use oracle::calls::{self, Line};
 use oracle::state::{Call, Lent, Lists, Reply, Side, State, LISTS, TABLES};
 use oracle::{listing, Oracle};
 use std::ops::RangeInclusive;
+use tukmiheb::entries::{FILE_LENGTH, STATE_LENGTH};
 use tukmiheb::layout::{HALF_EDGE_MARKS, NODE_MARKS};
 
 /// The bytes that are no mark.
@@ -37,7 +38,7 @@ fn all_calls(segment: Segment, file: &[u8]) -> Vec<Asked> {
 /// All that is lent to a call.
 #[derive(Clone)]
 struct Held {
-    small: [u16; 3],
+    small: [u16; STATE_LENGTH],
     packed: Packed,
     lists: Lists,
 }
@@ -60,7 +61,7 @@ impl Held {
         answered.unwrap_or_else(|refusal| Reply::Refused(refusal.number()))
     }
 
-    fn add_file(&mut self, bytes: &[u8], lent: &Lent) -> Result<[u64; 2], u32> {
+    fn add_file(&mut self, bytes: &[u8], lent: &Lent) -> Result<[u64; FILE_LENGTH], u32> {
         let slices = &mut self.packed.lend(lent);
         let answered = answer_file(bytes, &mut self.small, slices);
         answered.map_err(|refusal| refusal.number())
@@ -199,7 +200,7 @@ fn creating_keeps_bytes() {
             held.packed.marks[place] = byte;
         }
         let mut expected = held.clone();
-        expected.small = [0; 3];
+        expected.small = [0; STATE_LENGTH];
         assert_eq!(held.call(&Call::Create, &Lent::FULL), Reply::Created);
         assert!(held.is(&expected));
     }

@@ -6,7 +6,7 @@
 use std::collections::BTreeSet;
 use std::error::Error;
 use std::io::{self, Read};
-use tukmiheb::{Compartment, Graph, Refusal};
+use tukmiheb::{Compartment, Graph, RefusedRecord};
 
 /// What is printed of a compartment.
 struct Listed {
@@ -17,17 +17,12 @@ struct Listed {
     passes: BTreeSet<u32>,
 }
 
-/// The compartments of a trace, or why it is refused.
-fn compartments(bytes: &[u8]) -> Result<Vec<Listed>, Refusal> {
-    let mut graph = Graph::new();
-    graph.add_records(bytes)?.whole()?;
-    graph.sort_edges()?;
-    graph.prune_dangles()?;
-    graph.delete_cut_edges()?;
-    let rings = graph.extract_rings()?;
-    let compartments = rings.compartments();
+/// The compartments of a trace, or which record is refused and why.
+fn compartments(bytes: &[u8]) -> Result<Vec<Listed>, RefusedRecord> {
+    let map = Graph::polygonize(bytes)?;
+    let compartments = map.compartments();
     Ok(compartments
-        .map(|compartment| listed(compartment, rings.graph()))
+        .map(|compartment| listed(compartment, map.graph()))
         .collect())
 }
 

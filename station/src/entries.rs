@@ -6,7 +6,38 @@
 //! exactly their size, so that none of them can be too short.
 
 use crate::ffi;
+use crate::layout::SEGMENT_FLOATS;
 use crate::Refusal;
+
+/// The small state: node count, edge count and stage (0 to 4).
+pub const STATE_LENGTH: usize = 3;
+
+/// An edge, and 1 where it is new.
+pub const ADDED_LENGTH: usize = 2;
+
+/// A count alone.
+pub const COUNT_LENGTH: usize = 1;
+
+/// A count, V, E, cycles, C and the verdict (1 or 0).
+pub const CENSUS_LENGTH: usize = 6;
+
+/// Behind these the comparisons of naming, and how many half-edges and holes were written.
+pub const RINGS_LENGTH: usize = CENSUS_LENGTH + 3;
+
+/// How many records were taken, and the number of what ended it.
+pub const FILE_LENGTH: usize = 2;
+
+/// Whether there is a record (1 or 0), its line id, and the place of the next.
+pub const RECORD_LENGTH: usize = 3;
+
+/// x and y of a centre and two targets.
+pub const POINTS_LENGTH: usize = 6;
+
+/// An angular order.
+pub const ORDER_LENGTH: usize = 1;
+
+/// Where a least rotation starts, and how many comparisons that took.
+pub const ROTATION_LENGTH: usize = 2;
 
 /// The state tables as regions of five slices, lent to a call. [`layout`](crate::layout) says where
 /// each table lies, and the least length of each slice.
@@ -27,30 +58,49 @@ pub struct Slices<'a> {
 
 /// The six ring lists, lent to ring extraction. Each needs two entries for each edge.
 pub struct RingLists<'a> {
+    /// The half-edges, ring by ring.
     pub half_edges: &'a mut [u16],
+    /// Where each ring begins among the half-edges.
     pub first: &'a mut [u16],
+    /// How many half-edges it has.
     pub length: &'a mut [u16],
+    /// Its face number.
     pub face: &'a mut [u16],
-    /// 0 flat, 1 enclosed, 2 open.
+    /// Its side: [`FLAT`], [`ENCLOSED`] or [`OPEN`].
     pub side: &'a mut [u8],
+    /// Its area, 0.0 where flat.
     pub area: &'a mut [f64],
 }
+
+/// The side of a ring without area.
+pub const FLAT: u8 = 0;
+
+/// The side of a ring with an area above 0, the outline of a compartment.
+pub const ENCLOSED: u8 = 1;
+
+/// The side of a ring with an area below 0, what lies around a piece of the map.
+pub const OPEN: u8 = 2;
 
 /// A record of the hole list: an open ring and the enclosed ring that holds it, by their places among the
 /// rings, and the open ring's doubled area, which is below 0.
 #[repr(C)]
 #[derive(Clone, Copy, Debug, Default, PartialEq, Eq)]
 pub struct HoleRecord {
+    /// The open ring.
     pub ring: u16,
-    /// [`OUTSIDE`](crate::layout::OUTSIDE) where no ring holds it.
+    /// The enclosed ring, or [`OUTSIDE`](crate::layout::OUTSIDE) where none holds it.
     pub holder: u16,
+    /// The open ring's doubled area.
     pub doubled: i64,
 }
 
 fn answered(number: u32) -> Result<(), Refusal> {
     match number {
         0 => Ok(()),
-        _ => Err(Refusal::from_number(number).expect("the library answers 0 to 13")),
+        _ => {
+            Err(Refusal::from_number(number)
+                .expect("the library answers 0 or the number of a refusal"))
+        }
     }
 }
 
@@ -86,18 +136,26 @@ macro_rules! lend {
 }
 
 /// Sets `state` (node count, edge count, stage) to an empty graph. No slice is written.
-pub fn create(state: &mut [u16; 3], slices: &mut Slices) -> Result<(), Refusal> {
+///
+/// # Errors
+///
+/// 6.
+pub fn create(state: &mut [u16; STATE_LENGTH], slices: &mut Slices) -> Result<(), Refusal> {
     lend!(tukmiheb_create, state, [], slices, [])
 }
 
 /// Adds a line, start x, y, z and end x, y, z. `reply` gets the edge, and 1 if it is new. Of an old edge
 /// only its list of line ids changes, where that lacks the line's, and its own line id, the lowest.
+///
+/// # Errors
+///
+/// 6, 7, 5, 1, 2, 3, 4 or 12: the first of these that is due.
 pub fn add_line(
-    state: &mut [u16; 3],
-    line: &[f64; 6],
+    state: &mut [u16; STATE_LENGTH],
+    line: &[f64; SEGMENT_FLOATS],
     line_id: u32,
     slices: &mut Slices,
-    reply: &mut [u16; 2],
+    reply: &mut [u16; ADDED_LENGTH],
 ) -> Result<(), Refusal> {
     let [x1, y1, z1, x2, y2, z2] = *line;
     lend!(
@@ -112,11 +170,15 @@ pub fn add_line(
 /// Adds the records of a segment file, up to its end or to the first that is refused. `reply` gets how
 /// many were taken, and the number of what ended it: 0 at the end, else that of the refusal. The
 /// records before a refused one stay added, so the call itself succeeds there.
+///
+/// # Errors
+///
+/// 6, 7 or 5.
 pub fn add_records(
-    state: &mut [u16; 3],
+    state: &mut [u16; STATE_LENGTH],
     bytes: &[u8],
     slices: &mut Slices,
-    reply: &mut [u64; 2],
+    reply: &mut [u64; FILE_LENGTH],
 ) -> Result<(), Refusal> {
     lend!(
         tukmiheb_add_records,
@@ -128,17 +190,25 @@ pub fn add_records(
 }
 
 /// Puts every star in angular order: stage 0 to 1. Of the slices only the stars are written.
-pub fn sort_edges(state: &mut [u16; 3], slices: &mut Slices) -> Result<(), Refusal> {
+///
+/// # Errors
+///
+/// 6, 7 or 5.
+pub fn sort_edges(state: &mut [u16; STATE_LENGTH], slices: &mut Slices) -> Result<(), Refusal> {
     lend!(tukmiheb_sort_edges, state, [], slices, [])
 }
 
 /// Marks dangles: stage 1 to 2. `reply` gets their count, `dangles` their edges. Of the slices the
 /// degrees in the stars and the marks are written.
+///
+/// # Errors
+///
+/// 6, 7 or 5; 8 where `dangles` has fewer entries than the graph has edges.
 pub fn prune_dangles(
-    state: &mut [u16; 3],
+    state: &mut [u16; STATE_LENGTH],
     slices: &mut Slices,
     dangles: &mut [u16],
-    reply: &mut [u16; 1],
+    reply: &mut [u16; COUNT_LENGTH],
 ) -> Result<(), Refusal> {
     lend!(
         tukmiheb_prune_dangles,
@@ -151,11 +221,15 @@ pub fn prune_dangles(
 
 /// Marks cut edges: stage 2 to 3. `reply` gets their count, V, E, cycles, C and the verdict (1 or
 /// 0), `cuts` their edges. Of the slices only the marks are written.
+///
+/// # Errors
+///
+/// 6, 7 or 5; 8 where `cuts` has fewer entries than the graph has edges.
 pub fn delete_cut_edges(
-    state: &mut [u16; 3],
+    state: &mut [u16; STATE_LENGTH],
     slices: &mut Slices,
     cuts: &mut [u16],
-    reply: &mut [u16; 6],
+    reply: &mut [u16; CENSUS_LENGTH],
 ) -> Result<(), Refusal> {
     lend!(
         tukmiheb_delete_cut_edges,
@@ -170,12 +244,17 @@ pub fn delete_cut_edges(
 /// verdict, how often the least-rotation searches of all rings compared two keys, and how many half-edges
 /// and holes were written. A hole list with as many records as the graph has edges is always long enough.
 /// No slice is written.
+///
+/// # Errors
+///
+/// 6, 7 or 5; 8 where a ring list has fewer entries than twice the edges; 13 where `holes` has fewer records
+/// than there are open rings.
 pub fn extract_rings(
     holes: &mut [HoleRecord],
-    state: &mut [u16; 3],
+    state: &mut [u16; STATE_LENGTH],
     slices: &mut Slices,
     rings: &mut RingLists,
-    reply: &mut [u16; 9],
+    reply: &mut [u16; RINGS_LENGTH],
 ) -> Result<(), Refusal> {
     lend!(
         tukmiheb_extract_rings[holes.as_mut_ptr(), holes.len()],
@@ -202,17 +281,25 @@ pub fn extract_rings(
 
 /// Unmarks everything: any stage to 0. Of the slices the degrees in the stars and the marks are
 /// written.
-pub fn reset(state: &mut [u16; 3], slices: &mut Slices) -> Result<(), Refusal> {
+///
+/// # Errors
+///
+/// 6 or 7.
+pub fn reset(state: &mut [u16; STATE_LENGTH], slices: &mut Slices) -> Result<(), Refusal> {
     lend!(tukmiheb_reset, state, [], slices, [])
 }
 
 /// Reads what stands at a place of a segment file. `reply` gets 1 for a segment or 0 for the end,
 /// the line id, and the place of the next record; `line` the segment's start and end.
+///
+/// # Errors
+///
+/// 9, 10 or 11.
 pub fn read_record(
     bytes: &[u8],
     at: usize,
-    line: &mut [f64; 6],
-    reply: &mut [u64; 3],
+    line: &mut [f64; SEGMENT_FLOATS],
+    reply: &mut [u64; RECORD_LENGTH],
 ) -> Result<(), Refusal> {
     // SAFETY: as in `lend`.
     answered(unsafe { ffi::tukmiheb_read_record(bytes.as_ptr(), bytes.len(), at, line, reply) })
@@ -220,7 +307,14 @@ pub fn read_record(
 
 /// Compares the directions from a centre to two targets (`points`: x and y of the three). `reply`
 /// gets 0 where the first comes before the second counterclockwise, 1 where they are the same, or 2.
-pub fn compare_angular(points: &[f64; 6], reply: &mut [u8; 1]) -> Result<(), Refusal> {
+///
+/// # Errors
+///
+/// 1.
+pub fn compare_angular(
+    points: &[f64; POINTS_LENGTH],
+    reply: &mut [u8; ORDER_LENGTH],
+) -> Result<(), Refusal> {
     let [cx, cy, ax, ay, bx, by] = *points;
     // SAFETY: as in `lend`.
     answered(unsafe { ffi::tukmiheb_compare_angular(cx, cy, ax, ay, bx, by, reply) })
@@ -228,10 +322,14 @@ pub fn compare_angular(points: &[f64; 6], reply: &mut [u8; 1]) -> Result<(), Ref
 
 /// Finds the least rotation of a ring of keys; key i is (`xs[i]`, `ys[i]`). `reply` gets the place
 /// at which it starts, and how often the search compared two keys.
+///
+/// # Errors
+///
+/// 8 where the lengths differ.
 pub fn minimum_rotation_index(
     xs: &[u64],
     ys: &[u64],
-    reply: &mut [usize; 2],
+    reply: &mut [usize; ROTATION_LENGTH],
 ) -> Result<(), Refusal> {
     // SAFETY: as in `lend`.
     answered(unsafe {

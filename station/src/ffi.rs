@@ -5,7 +5,11 @@
 //! An entry reads and writes within the lengths, whatever the slices hold, and keeps none of the
 //! pointers. It only reads what is `const`.
 
-use crate::entries::HoleRecord;
+use crate::entries::{
+    HoleRecord, ADDED_LENGTH, CENSUS_LENGTH, COUNT_LENGTH, FILE_LENGTH, ORDER_LENGTH,
+    RECORD_LENGTH, RINGS_LENGTH, ROTATION_LENGTH, STATE_LENGTH,
+};
+use crate::layout::SEGMENT_FLOATS;
 
 /// Declares an entry that is lent the state and the five slices, between its other arguments: those in
 /// brackets come before the state.
@@ -18,7 +22,7 @@ macro_rules! graph_entry {
         extern "C" {
             pub fn $name(
                 $($($first: $first_type,)*)?
-                state: *mut [u16; 3],
+                state: *mut [u16; STATE_LENGTH],
                 $($before: $before_type,)*
                 floats: *$floats f64,
                 floats_length: usize,
@@ -46,7 +50,7 @@ graph_entry!(
 graph_entry!(
     tukmiheb_add_line(x1: f64, y1: f64, z1: f64, x2: f64, y2: f64, z2: f64, line_id: u32),
     mut floats, mut numbers, mut stars, mut marks, mut ids,
-    (reply: *mut [u16; 2])
+    (reply: *mut [u16; ADDED_LENGTH])
 );
 
 // ---- station_files
@@ -54,7 +58,7 @@ graph_entry!(
 graph_entry!(
     tukmiheb_add_records(bytes: *const u8, bytes_length: usize),
     mut floats, mut numbers, mut stars, mut marks, mut ids,
-    (reply: *mut [u64; 2])
+    (reply: *mut [u64; FILE_LENGTH])
 );
 
 extern "C" {
@@ -62,8 +66,8 @@ extern "C" {
         bytes: *const u8,
         bytes_length: usize,
         at: usize,
-        line: *mut [f64; 6],
-        reply: *mut [u64; 3],
+        line: *mut [f64; SEGMENT_FLOATS],
+        reply: *mut [u64; RECORD_LENGTH],
     ) -> u32;
 }
 
@@ -77,12 +81,12 @@ graph_entry!(
 graph_entry!(
     tukmiheb_prune_dangles(),
     const floats, const numbers, mut stars, mut marks, const ids,
-    (dangles: *mut u16, dangles_length: usize, reply: *mut [u16; 1])
+    (dangles: *mut u16, dangles_length: usize, reply: *mut [u16; COUNT_LENGTH])
 );
 graph_entry!(
     tukmiheb_delete_cut_edges(),
     const floats, const numbers, const stars, mut marks, const ids,
-    (cuts: *mut u16, cuts_length: usize, reply: *mut [u16; 6])
+    (cuts: *mut u16, cuts_length: usize, reply: *mut [u16; CENSUS_LENGTH])
 );
 graph_entry!(
     tukmiheb_reset(),
@@ -108,7 +112,7 @@ graph_entry!(
         ring_side_length: usize,
         ring_area: *mut f64,
         ring_area_length: usize,
-        reply: *mut [u16; 9]
+        reply: *mut [u16; RINGS_LENGTH]
     )
 );
 
@@ -122,7 +126,7 @@ extern "C" {
         ay: f64,
         bx: f64,
         by: f64,
-        reply: *mut [u8; 1],
+        reply: *mut [u8; ORDER_LENGTH],
     ) -> u32;
 
     pub fn tukmiheb_minimum_rotation_index(
@@ -130,6 +134,6 @@ extern "C" {
         xs_length: usize,
         ys: *const u64,
         ys_length: usize,
-        reply: *mut [usize; 2],
+        reply: *mut [usize; ROTATION_LENGTH],
     ) -> u32;
 }

@@ -1,6 +1,9 @@
 //! A graph that owns its tables.
 
-use crate::entries::{self, HoleRecord, RingLists, Slices};
+use crate::entries::{
+    self, HoleRecord, RingLists, Slices, ADDED_LENGTH, CENSUS_LENGTH, COUNT_LENGTH, FILE_LENGTH,
+    RINGS_LENGTH, STATE_LENGTH,
+};
 use crate::layout::{
     EDGE_LIMIT, FLOATS, HALF_EDGE_LIMIT, HALF_EDGE_MARKS, IDS, LINE_IDS, MARKS, NODES_X, NODES_Y,
     NODES_Z, NUMBERS, SEGMENTS, SEGMENT_FLOATS, SOURCES, STARS, TARGETS,
@@ -33,12 +36,17 @@ pub struct FaceId(pub u16);
 /// A point. x and y are whole numbers from -1,048,576 to 1,048,576; z may be anything.
 #[derive(Clone, Copy, Debug, PartialEq)]
 pub struct Coord3D {
+    /// To the right.
     pub x: f64,
+    /// Upwards. Where it counts downwards, as on a screen, left and right change places in what is said
+    /// here, and no reply changes.
     pub y: f64,
+    /// Carried along and never computed with.
     pub z: f64,
 }
 
 impl Coord3D {
+    /// The point (x, y, z).
     pub fn new(x: f64, y: f64, z: f64) -> Self {
         Coord3D { x, y, z }
     }
@@ -47,12 +55,16 @@ impl Coord3D {
 /// A segment of a trace.
 #[derive(Clone, Copy, Debug, PartialEq)]
 pub struct Line3D {
+    /// Where it starts.
     pub start: Coord3D,
+    /// Where it ends.
     pub end: Coord3D,
+    /// Which pass of the tracing drew it.
     pub line_id: u32,
 }
 
 impl Line3D {
+    /// The segment from `start` to `end`.
     pub fn new(start: Coord3D, end: Coord3D, line_id: u32) -> Self {
         Line3D {
             start,
@@ -61,11 +73,12 @@ impl Line3D {
         }
     }
 
-    pub(crate) fn from_values([x1, y1, z1, x2, y2, z2]: [f64; 6], line_id: u32) -> Self {
+    pub(crate) fn from_values(values: [f64; SEGMENT_FLOATS], line_id: u32) -> Self {
+        let [x1, y1, z1, x2, y2, z2] = values;
         Line3D::new(Coord3D::new(x1, y1, z1), Coord3D::new(x2, y2, z2), line_id)
     }
 
-    fn values(&self) -> [f64; 6] {
+    fn values(&self) -> [f64; SEGMENT_FLOATS] {
         let (a, b) = (self.start, self.end);
         [a.x, a.y, a.z, b.x, b.y, b.z]
     }
@@ -74,17 +87,24 @@ impl Line3D {
 /// Where a graph is on its way from segments to rings.
 #[derive(Clone, Copy, Debug, PartialEq, Eq)]
 pub enum Stage {
+    /// Segments are added.
     Building,
+    /// The half-edges around each node are in angular order.
     Sorted,
+    /// Dangles are marked.
     Pruned,
+    /// Cut edges are marked.
     Cut,
+    /// The rings are listed.
     Ringed,
 }
 
 /// The edge of a segment that was added, and whether it is a new one.
 #[derive(Clone, Copy, Debug, PartialEq, Eq)]
 pub struct Added {
+    /// The edge between the segment's ends.
     pub edge: EdgeId,
+    /// Whether the segment made it.
     pub new: bool,
 }
 
@@ -92,12 +112,18 @@ pub struct Added {
 /// them, if that ended it.
 #[derive(Clone, Copy, Debug, PartialEq, Eq)]
 pub struct Records {
+    /// How many records were taken.
     pub taken: usize,
+    /// Why the next one was refused; none at the file's end.
     pub stopped: Option<Refusal>,
 }
 
 impl Records {
-    /// How many records the file has, or why the first bad one is refused.
+    /// How many records the file has.
+    ///
+    /// # Errors
+    ///
+    /// Why the first bad record is refused, where there is one.
     pub fn whole(self) -> Result<usize, Refusal> {
         match self.stopped {
             None => Ok(self.taken),
@@ -106,25 +132,30 @@ impl Records {
     }
 }
 
-/// The nodes, edges, maximal rings and pieces that are left in a graph, and whether they meet
-/// Euler's formula: nodes - edges + cycles = 2 x pieces.
+/// The counts that Euler's formula is about, over what is unmarked, and its verdict.
 #[derive(Clone, Copy, Debug, PartialEq, Eq)]
 pub struct Census {
-    pub nodes: u16,
+    /// V, the nodes with an unmarked half-edge.
+    pub vertices: u16,
+    /// E, the unmarked edges.
     pub edges: u16,
+    /// The maximal rings.
     pub cycles: u16,
+    /// C, the pieces that the nodes form.
     pub pieces: u16,
-    pub euler: bool,
+    /// Whether V - E + cycles = 2 x C. It is no proof that no segments cross: crossings without a node can
+    /// pass it.
+    pub verdict: bool,
 }
 
 impl Census {
-    pub(crate) fn of([nodes, edges, cycles, pieces, euler]: [u16; 5]) -> Self {
+    pub(crate) fn of([vertices, edges, cycles, pieces, verdict]: [u16; 5]) -> Self {
         Census {
-            nodes,
+            vertices,
             edges,
             cycles,
             pieces,
-            euler: euler == 1,
+            verdict: verdict == 1,
         }
     }
 }
@@ -132,17 +163,22 @@ impl Census {
 /// The edges that were cut, and the counts before.
 #[derive(Clone, Debug, PartialEq, Eq)]
 pub struct Cuts {
+    /// By rising number.
     pub edges: Vec<EdgeId>,
+    /// Taken before they were marked.
     pub census: Census,
 }
 
-/// A graph: segments are added, then the four steps run in their order.
+/// A graph: segments are added, then the four steps run in their order. [`Graph::polygonize`] does all of
+/// that for a whole tracing.
 ///
-/// A refused call changes nothing.
+/// A refused call changes nothing. A graph may be moved to another thread, and graphs may be worked on in
+/// several threads at once: the library keeps nothing between calls, so all that a call reads and writes is
+/// in its own graph.
 #[derive(Clone, Debug)]
 pub struct Graph {
     /// Node count, edge count, stage.
-    state: [u16; 3],
+    state: [u16; STATE_LENGTH],
     slices: OwnedSlices,
     listed: Vec<u16>,
     pub(crate) rings: OwnedRings,
@@ -225,7 +261,7 @@ impl Graph {
     /// [`EDGE_LIMIT`] edges and [`PAIR_LIMIT`](crate::layout::PAIR_LIMIT) line ids behind them.
     pub fn new() -> Self {
         let mut graph = Graph {
-            state: [0; 3],
+            state: [0; STATE_LENGTH],
             slices: OwnedSlices::new(),
             listed: vec![0; EDGE_LIMIT],
             rings: OwnedRings::new(HALF_EDGE_LIMIT),
@@ -245,8 +281,12 @@ impl Graph {
     /// Adds a segment (stage `Building`). A segment between two nodes that are joined already
     /// answers the old edge. Its id comes to the edge's [`line_ids`](Graph::line_ids), and nothing
     /// else changes.
+    ///
+    /// # Errors
+    ///
+    /// 5 in another stage; 1 and 2 for the segment's points; 3, 4 and 12 where the tables are full.
     pub fn add_line(&mut self, line: &Line3D) -> Result<Added, Refusal> {
-        let mut reply = [0; 2];
+        let mut reply = [0; ADDED_LENGTH];
         entries::add_line(
             &mut self.state,
             &line.values(),
@@ -264,8 +304,12 @@ impl Graph {
     /// refused. The segments before that record stay added: [`Records`] says how many, and why it
     /// is refused. This tests the tables once, where a call of `add_line` for each segment tests
     /// them for each.
+    ///
+    /// # Errors
+    ///
+    /// 5 in another stage. The refusal of a record is no error of the call: [`Records::whole`] makes it one.
     pub fn add_records(&mut self, bytes: &[u8]) -> Result<Records, Refusal> {
-        let mut reply = [0; 2];
+        let mut reply = [0; FILE_LENGTH];
         entries::add_records(&mut self.state, bytes, &mut self.slices.lend(), &mut reply)?;
         let [taken, number] = reply;
         Ok(Records {
@@ -275,13 +319,21 @@ impl Graph {
     }
 
     /// Puts the half-edges around every node in angular order (`Building` to `Sorted`).
+    ///
+    /// # Errors
+    ///
+    /// 5 in another stage.
     pub fn sort_edges(&mut self) -> Result<(), Refusal> {
         entries::sort_edges(&mut self.state, &mut self.slices.lend())
     }
 
     /// Marks dangles and answers their edges in the order found (`Sorted` to `Pruned`).
+    ///
+    /// # Errors
+    ///
+    /// 5 in another stage.
     pub fn prune_dangles(&mut self) -> Result<Vec<EdgeId>, Refusal> {
-        let mut reply = [0; 1];
+        let mut reply = [0; COUNT_LENGTH];
         entries::prune_dangles(
             &mut self.state,
             &mut self.slices.lend(),
@@ -292,8 +344,12 @@ impl Graph {
     }
 
     /// Marks edges with the same maximal ring on both sides (`Pruned` to `Cut`).
+    ///
+    /// # Errors
+    ///
+    /// 5 in another stage.
     pub fn delete_cut_edges(&mut self) -> Result<Cuts, Refusal> {
-        let mut reply = [0; 6];
+        let mut reply = [0; CENSUS_LENGTH];
         entries::delete_cut_edges(
             &mut self.state,
             &mut self.slices.lend(),
@@ -309,8 +365,18 @@ impl Graph {
 
     /// Extracts the rings of what is unmarked, and which of them are holes of others (`Cut` to
     /// `Ringed`).
+    ///
+    /// # Errors
+    ///
+    /// 5 in another stage.
     pub fn extract_rings(&mut self) -> Result<Rings<'_>, Refusal> {
-        let mut reply = [0; 9];
+        let reply = self.list_rings()?;
+        Ok(Rings::new(self, reply))
+    }
+
+    /// The rings in their lists, and what the library replied.
+    pub(crate) fn list_rings(&mut self) -> Result<[u16; RINGS_LENGTH], Refusal> {
+        let mut reply = [0; RINGS_LENGTH];
         entries::extract_rings(
             &mut self.holes,
             &mut self.state,
@@ -318,22 +384,29 @@ impl Graph {
             &mut self.rings.lend(),
             &mut reply,
         )?;
-        Ok(Rings::new(self, reply))
+        Ok(reply)
     }
 
     /// Unmarks everything, in any stage, so that segments can be added again (to `Building`).
+    ///
+    /// # Errors
+    ///
+    /// None that this graph's own calls can cause.
     pub fn reset(&mut self) -> Result<(), Refusal> {
         entries::reset(&mut self.state, &mut self.slices.lend())
     }
 
+    /// How many nodes it has.
     pub fn node_count(&self) -> usize {
         self.state[0].into()
     }
 
+    /// How many edges it has, marked ones included.
     pub fn edge_count(&self) -> usize {
         self.state[1].into()
     }
 
+    /// How far it has come.
     pub fn stage(&self) -> Stage {
         match self.state[2] {
             0 => Stage::Building,

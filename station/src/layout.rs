@@ -20,15 +20,25 @@ pub const LIST_END: u16 = 65_535;
 /// No ring: the holder of an open ring that no ring holds.
 pub const OUTSIDE: u16 = 65_535;
 
+/// The most half-edges: two for each edge.
 pub const HALF_EDGE_LIMIT: usize = 2 * EDGE_LIMIT;
 
 /// The floats of a segment: start x, y, z and end x, y, z.
 pub const SEGMENT_FLOATS: usize = 6;
 
+/// The stack, in bytes, that a thread should have for any call. It is no proved bound: in trials of every call on
+/// full tables ring extraction took most, 225 KiB with these limits, and this is two fifths more.
+pub const STACK: usize = 320 * EDGE_LIMIT;
+
 // ---- floats: x, y and z of the nodes, then segments
 
+/// x of the nodes.
 pub const NODES_X: usize = 0;
+
+/// y of the nodes.
 pub const NODES_Y: usize = NODES_X + NODE_LIMIT;
+
+/// z of the nodes.
 pub const NODES_Z: usize = NODES_Y + NODE_LIMIT;
 
 /// The segment of edge k begins [`SEGMENT_FLOATS`] k past this place.
@@ -59,6 +69,7 @@ pub const NUMBERS: usize = LINKS + PAIR_LIMIT;
 /// Every half-edge once. A node's star is what of it starts at the node, in this order.
 pub const OUTGOING: usize = 0;
 
+/// How many unmarked half-edges start at each node.
 pub const DEGREES: usize = OUTGOING + HALF_EDGE_LIMIT;
 
 /// The least length of the stars.
@@ -66,7 +77,10 @@ pub const STARS: usize = DEGREES + NODE_LIMIT;
 
 // ---- marks: a byte each
 
+/// The marks of nodes.
 pub const NODE_MARKS: usize = 0;
+
+/// The marks of half-edges. Both halves of an edge are marked alike.
 pub const HALF_EDGE_MARKS: usize = NODE_MARKS + NODE_LIMIT;
 
 /// The least length of the marks.
@@ -77,6 +91,7 @@ pub const MARKS: usize = HALF_EDGE_MARKS + HALF_EDGE_LIMIT;
 /// The lowest id of each edge.
 pub const LINE_IDS: usize = 0;
 
+/// The id of each pair.
 pub const PAIR_IDS: usize = LINE_IDS + EDGE_LIMIT;
 
 /// The least length of the ids.

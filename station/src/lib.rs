@@ -12,47 +12,56 @@
 //! rt staticlib station_questions
 //! ```
 //!
-//! ```
-//! use tukmiheb::{Coord3D, Graph, Line3D, Refusal};
+//! A segment file becomes a map in one call, or says which record is refused and why:
 //!
-//! fn areas(trace: &[Line3D]) -> Result<Vec<f64>, Refusal> {
-//!     let mut graph = Graph::new();
-//!     for line in trace {
-//!         graph.add_line(line)?;
-//!     }
-//!     graph.sort_edges()?;
-//!     graph.prune_dangles()?;
-//!     graph.delete_cut_edges()?;
-//!     let rings = graph.extract_rings()?;
-//!     Ok(rings.enclosed().map(|ring| ring.area()).collect())
+//! ```
+//! use tukmiheb::{Graph, RefusedRecord};
+//!
+//! fn areas(file: &[u8]) -> Result<Vec<f64>, RefusedRecord> {
+//!     let map = Graph::polygonize(file)?;
+//!     Ok(map.compartments().map(|compartment| compartment.net_area()).collect())
 //! }
 //!
-//! let corners = [(0.0, 0.0), (4.0, 0.0), (0.0, 3.0)].map(|(x, y)| Coord3D::new(x, y, 0.0));
-//! let trace = [0, 1, 2].map(|k| Line3D::new(corners[k], corners[(k + 1) % 3], k as u32));
-//! assert_eq!(areas(&trace), Ok(vec![6.0]));
+//! # let waist = concat!(env!("CARGO_MANIFEST_DIR"), "/../samples/waist.seg");
+//! let waist = std::fs::read(waist)?;
+//! assert_eq!(areas(&waist)?.iter().sum::<f64>(), 52_000.0);
+//! assert_eq!(areas(&waist[..100]).unwrap_err().record, 1);
+//! # Ok::<(), Box<dyn std::error::Error>>(())
 //! ```
 //!
-//! An island is a hole of the compartment around it, and not a second outside:
+//! Step by step, so that segments can be added as they are traced:
 //!
 //! ```
 //! use tukmiheb::{Coord3D, Graph, Line3D, Refusal};
 //!
+//! let corners = [(0.0, 0.0), (4.0, 0.0), (0.0, 3.0)].map(|(x, y)| Coord3D::new(x, y, 0.0));
 //! let mut graph = Graph::new();
-//! for (low, high) in [(0.0, 6.0), (2.0, 4.0)] {
-//!     let corners = [(low, low), (high, low), (high, high), (low, high)];
-//!     let corners = corners.map(|(x, y)| Coord3D::new(x, y, 0.0));
-//!     for side in 0..4 {
-//!         graph.add_line(&Line3D::new(corners[side], corners[(side + 1) % 4], 1))?;
-//!     }
+//! for side in 0..3 {
+//!     graph.add_line(&Line3D::new(corners[side], corners[(side + 1) % 3], 1))?;
 //! }
 //! graph.sort_edges()?;
 //! graph.prune_dangles()?;
 //! graph.delete_cut_edges()?;
 //! let rings = graph.extract_rings()?;
-//! let areas = rings.compartments().map(|compartment| compartment.net_area());
-//! assert!(areas.eq([32.0, 4.0]));
-//! assert_eq!(rings.holes().filter(|hole| hole.holder.is_none()).count(), 1);
+//! assert!(rings.enclosed().map(|ring| ring.area()).eq([6.0]));
 //! # Ok::<(), Refusal>(())
+//! ```
+//!
+//! An island is a hole of the compartment around it, and not a second outside:
+//!
+//! ```
+//! use tukmiheb::{Coord3D, Graph, Line3D, RefusedRecord};
+//!
+//! let square = |low: f64, high: f64| {
+//!     let corners = [(low, low), (high, low), (high, high), (low, high)];
+//!     let corners = corners.map(|(x, y)| Coord3D::new(x, y, 0.0));
+//!     [0, 1, 2, 3].map(|side| Line3D::new(corners[side], corners[(side + 1) % 4], 1))
+//! };
+//! let map = Graph::polygonize_lines([square(0.0, 6.0), square(2.0, 4.0)].concat())?;
+//! let areas = map.compartments().map(|compartment| compartment.net_area());
+//! assert!(areas.eq([32.0, 4.0]));
+//! assert_eq!(map.rings().holes().filter(|hole| hole.holder.is_none()).count(), 1);
+//! # Ok::<(), RefusedRecord>(())
 //! ```
 //!
 //! An edge knows all passes that drew it, by their line ids:
@@ -68,16 +77,11 @@
 //! # Ok::<(), Refusal>(())
 //! ```
 //!
-//! A segment file is added in one call:
+//! # Threads and stack
 //!
-//! ```
-//! use tukmiheb::{Graph, Refusal};
-//!
-//! let mut graph = Graph::new();
-//! let records = graph.add_records(&[54, 0, 0])?;
-//! assert_eq!((records.taken, records.stopped), (0, Some(Refusal::RecordShort)));
-//! # Ok::<(), Refusal>(())
-//! ```
+//! Every type here is `Send` and `Sync`. The library has no memory of its own: a call works on what it is
+//! lent, so graphs in different threads do not meet. A [`Graph`] owns its tables on the heap, and a call
+//! works in arrays on the stack; [`layout::STACK`] says how much of it a thread needs.
 
 pub mod entries;
 mod ffi;
@@ -85,6 +89,7 @@ mod graph;
 mod holes;
 pub mod layout;
 mod line_ids;
+mod map;
 mod refusal;
 mod rings;
 mod rotation;
@@ -94,7 +99,13 @@ pub use graph::{Added, Census, Cuts, Graph, Records, Stage};
 pub use graph::{Coord3D, DirEdgeId, EdgeId, FaceId, Line3D, NodeId};
 pub use holes::{Compartment, Hole};
 pub use line_ids::LineIds;
+pub use map::{RefusedRecord, TissueMap};
 pub use refusal::Refusal;
-pub use rings::{Ring, RingSide, Rings};
+pub use rings::{Ring, RingIter, RingSide, Rings};
 pub use rotation::{least_rotation, Rotation};
 pub use segment_file::{segments, Segments};
+
+/// The code of the README, which is run as the other examples are.
+#[cfg(doctest)]
+#[doc = include_str!("../../README.md")]
+struct Readme;

@@ -3,26 +3,43 @@
 use std::fmt::{self, Display, Formatter};
 
 /// A refusal. Whatever was lent to the call has kept its contents.
+///
+/// Requests to come bring new numbers, so a `match` needs an arm for the rest.
 #[derive(Clone, Copy, Debug, PartialEq, Eq, Hash)]
+#[non_exhaustive]
 pub enum Refusal {
+    /// An x or y of the segment is not a whole number within the bound.
     NotWhole = 1,
+    /// Both ends of the segment have the same x and y.
     SameNode = 2,
+    /// The segment would make more nodes than [`NODE_LIMIT`](crate::layout::NODE_LIMIT).
     TooManyNodes = 3,
+    /// The segment would make more edges than [`EDGE_LIMIT`](crate::layout::EDGE_LIMIT).
     TooManyEdges = 4,
+    /// The call needs another [`Stage`](crate::Stage).
     WrongStage = 5,
+    /// A lent slice is shorter than its least length in [`layout`](crate::layout).
     TableTooShort = 6,
+    /// What the lent slices hold is no graph.
     Unsound = 7,
+    /// A lent result list is too short.
     ListTooShort = 8,
+    /// A file ends within a record.
     RecordShort = 9,
+    /// A record has another length than its kind needs.
     RecordLength = 10,
+    /// A record is of no known kind.
     RecordKind = 11,
+    /// The segment needs a place for its line id, and all
+    /// [`PAIR_LIMIT`](crate::layout::PAIR_LIMIT) are in use.
     TooManyPairs = 12,
+    /// The lent hole list is too short.
     TooFewHoles = 13,
 }
 
 impl Refusal {
     /// All of them, by number.
-    pub const ALL: [Refusal; 13] = [
+    pub const ALL: &'static [Refusal] = &[
         Refusal::NotWhole,
         Refusal::SameNode,
         Refusal::TooManyNodes,
@@ -38,17 +55,18 @@ impl Refusal {
         Refusal::TooFewHoles,
     ];
 
-    /// The refusal with a number from 1 to 13.
+    /// The refusal with this number, if there is one.
     pub fn from_number(number: u32) -> Option<Refusal> {
-        Refusal::ALL
-            .into_iter()
-            .find(|refusal| refusal.number() == number)
+        let mut refusals = Refusal::ALL.iter().copied();
+        refusals.find(|why| why.number() == number)
     }
 
+    /// Its number, by which the documents and the listing name it.
     pub fn number(self) -> u32 {
         self as u32
     }
 
+    /// Its name in words.
     pub fn name(self) -> &'static str {
         match self {
             Refusal::NotWhole => "not whole",

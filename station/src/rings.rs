@@ -1,7 +1,10 @@
 //! The rings of a graph.
 
+use crate::entries::{ENCLOSED, OPEN, RINGS_LENGTH};
 use crate::graph::{Census, Coord3D, DirEdgeId, FaceId, Graph, NodeId};
 use crate::holes::{Compartment, Hole};
+use std::iter::FusedIterator;
+use std::ops::Range;
 
 /// The side of a ring: what lies to the left of its half-edges.
 #[derive(Clone, Copy, Debug, PartialEq)]
@@ -26,6 +29,13 @@ pub struct Rings<'a> {
     holes: usize,
 }
 
+/// The rings one after another. See [`Rings::iter`].
+#[derive(Clone, Debug)]
+pub struct RingIter<'a> {
+    graph: &'a Graph,
+    numbers: Range<usize>,
+}
+
 /// A ring. It begins with its lowest half-edge.
 #[derive(Clone, Copy, Debug)]
 pub struct Ring<'a> {
@@ -34,7 +44,7 @@ pub struct Ring<'a> {
 }
 
 impl<'a> Rings<'a> {
-    pub(crate) fn new(graph: &'a Graph, reply: [u16; 9]) -> Self {
+    pub(crate) fn new(graph: &'a Graph, reply: [u16; RINGS_LENGTH]) -> Self {
         let [count, census @ .., comparisons, half_edges, holes] = reply;
         Rings {
             graph,
@@ -68,21 +78,27 @@ impl<'a> Rings<'a> {
         self.half_edges
     }
 
+    /// How many rings there are.
     pub fn len(&self) -> usize {
         self.count
     }
 
+    /// Whether there is none, as in an empty graph or a tracing without a closed line.
     pub fn is_empty(&self) -> bool {
         self.count == 0
     }
 
+    /// The ring with this number, if there is one.
     pub fn get(&self, number: usize) -> Option<Ring<'a>> {
         (number < self.count).then_some(Ring::new(self.graph, number))
     }
 
-    pub fn iter(&self) -> impl Iterator<Item = Ring<'a>> {
-        let graph = self.graph;
-        (0..self.count).map(move |number| Ring::new(graph, number))
+    /// The rings by their numbers.
+    pub fn iter(&self) -> RingIter<'a> {
+        RingIter {
+            graph: self.graph,
+            numbers: 0..self.count,
+        }
     }
 
     /// The enclosed rings, which are the outlines of compartments.
@@ -106,6 +122,48 @@ impl<'a> Rings<'a> {
     }
 }
 
+impl<'a> IntoIterator for Rings<'a> {
+    type Item = Ring<'a>;
+    type IntoIter = RingIter<'a>;
+
+    fn into_iter(self) -> RingIter<'a> {
+        self.iter()
+    }
+}
+
+impl<'a> IntoIterator for &Rings<'a> {
+    type Item = Ring<'a>;
+    type IntoIter = RingIter<'a>;
+
+    fn into_iter(self) -> RingIter<'a> {
+        self.iter()
+    }
+}
+
+impl<'a> Iterator for RingIter<'a> {
+    type Item = Ring<'a>;
+
+    fn next(&mut self) -> Option<Ring<'a>> {
+        let number = self.numbers.next()?;
+        Some(Ring::new(self.graph, number))
+    }
+
+    fn size_hint(&self) -> (usize, Option<usize>) {
+        self.numbers.size_hint()
+    }
+}
+
+impl DoubleEndedIterator for RingIter<'_> {
+    fn next_back(&mut self) -> Option<Self::Item> {
+        let number = self.numbers.next_back()?;
+        Some(Ring::new(self.graph, number))
+    }
+}
+
+impl ExactSizeIterator for RingIter<'_> {}
+
+impl FusedIterator for RingIter<'_> {}
+
 impl<'a> Ring<'a> {
     pub(crate) fn new(graph: &'a Graph, number: usize) -> Self {
         Ring { graph, number }
@@ -121,11 +179,12 @@ impl<'a> Ring<'a> {
         FaceId(self.graph.rings.face[self.number])
     }
 
+    /// What lies to its left, with its area.
     pub fn side(&self) -> RingSide {
         let area = self.graph.rings.area[self.number];
         match self.graph.rings.side[self.number] {
-            1 => RingSide::Enclosed(area),
-            2 => RingSide::Open(area),
+            ENCLOSED => RingSide::Enclosed(area),
+            OPEN => RingSide::Open(area),
             _ => RingSide::Flat,
         }
     }
@@ -135,6 +194,7 @@ impl<'a> Ring<'a> {
         self.graph.rings.area[self.number]
     }
 
+    /// Its half-edges in their order, from the lowest.
     pub fn half_edges(&self) -> impl Iterator<Item = DirEdgeId> + 'a {
         let rings = &self.graph.rings;
         let first = usize::from(rings.first[self.number]);

@@ -1,8 +1,10 @@
 //! Segment files.
 
-use crate::entries;
+use crate::entries::{self, RECORD_LENGTH};
 use crate::graph::Line3D;
+use crate::layout::SEGMENT_FLOATS;
 use crate::Refusal;
+use std::iter::FusedIterator;
 
 /// The segments of a file's bytes, in their order. After a refusal, or at the end, it ends.
 ///
@@ -23,8 +25,8 @@ impl Iterator for Segments<'_> {
 
     fn next(&mut self) -> Option<Self::Item> {
         let at = self.at.take()?;
-        let mut line = [0.0; 6];
-        let mut reply = [0; 3];
+        let mut line = [0.0; SEGMENT_FLOATS];
+        let mut reply = [0; RECORD_LENGTH];
         if let Err(refusal) = entries::read_record(self.bytes, at, &mut line, &mut reply) {
             return Some(Err(refusal));
         }
@@ -36,3 +38,5 @@ impl Iterator for Segments<'_> {
         Some(Ok(Line3D::from_values(line, line_id as u32)))
     }
 }
+
+impl FusedIterator for Segments<'_> {}

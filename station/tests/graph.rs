@@ -41,7 +41,7 @@ fn from_segments_to_rings() {
 
     let rings = graph.extract_rings().expect("stage 3");
     assert_eq!(rings.len(), 2);
-    assert!(rings.census().euler);
+    assert!(rings.census().verdict);
     // Two for each: the least corner is compared with the two others.
     assert_eq!(rings.comparisons(), 4);
     assert_eq!(rings.graph().stage(), Stage::Ringed);
@@ -198,7 +198,7 @@ fn records_of_a_file() {
 
 #[test]
 fn refusals_have_numbers_names_and_sentences() {
-    for (number, refusal) in (1..).zip(Refusal::ALL) {
+    for (number, &refusal) in (1..).zip(Refusal::ALL) {
         assert_eq!(refusal.number(), number);
         assert_eq!(Refusal::from_number(number), Some(refusal));
         assert!(!refusal.name().is_empty());

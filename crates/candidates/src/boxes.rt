@@ -10,18 +10,18 @@ use tables::MAX_EDGES;
 use tables::wide;
 
 // The places of a candidate's numbers: least x, greatest x, least y, greatest y, doubled area.
-const LOW_X: usize = 0;
+pub const LOW_X: usize = 0;
 
-const HIGH_X: usize = 1;
+pub const HIGH_X: usize = 1;
 
 const LOW_Y: usize = 2;
 
 const HIGH_Y: usize = 3;
 
-const AREA: usize = 4;
+pub const AREA: usize = 4;
 
 // How many they are.
-const NUMBERS: usize = 5;
+pub const NUMBERS: usize = 5;
 
 // Two half-edges or more make a ring with an area, so there are never more candidates than edges.
 pub const CANDIDATE_NUMBERS: usize = NUMBERS * MAX_EDGES;
@@ -68,22 +68,12 @@ pub fn in_box(numbers: &[i64], j: usize, x: i64, y: i64) -> bool
     !(numbers[place + HIGH_Y] < y)
 }
 
-// Whether the point is inside the box of candidate j and on none of its sides. Only guesses ask this,
-// so nothing is promised of the answer.
-pub fn well_in_box(numbers: &[i64], j: usize, x: i64, y: i64) -> bool
+// The least x of candidate j.
+pub fn low_x_of(numbers: &[i64], j: usize) -> i64
     requires { ⌜ numbersOf * j + numbersOf ≤ length (now numbers) ⌝ }
+    ensures { λ r. ⌜ r ≡ numberAt (now (numbers .entry)) j 0 ⌝ }
 {
-    let place = NUMBERS * j;
-    if x <= numbers[place + LOW_X] {
-        return false;
-    }
-    if numbers[place + HIGH_X] <= x {
-        return false;
-    }
-    if y <= numbers[place + LOW_Y] {
-        return false;
-    }
-    y < numbers[place + HIGH_Y]
+    numbers[NUMBERS * j + LOW_X]
 }
 
 // The doubled area of candidate j.

@@ -6,7 +6,8 @@ ghost use Rattle.corners.specs.Boxes.{Outermost};
 ghost use Rattle.candidates.specs.Candidates.{nodesAt, Standing, Writable, Written, Candidates, Listable};
 
 mod boxes;
-mod guess;
+mod order;
+mod passing;
 
 use crate::boxes::put_numbers;
 pub use boxes::CANDIDATE_NUMBERS;
@@ -14,8 +15,11 @@ pub use boxes::doubled_of;
 pub use boxes::in_box;
 use corners::Sides;
 use corners::sides_of;
-pub use guess::guess_holder;
-pub use guess::order_by_face;
+pub use order::order_by_start;
+pub use order::place_for;
+pub use passing::next_end;
+pub use passing::rest_is_larger;
+pub use passing::write_passing;
 use ring_lists::ENCLOSED;
 use ring_lists::doubled_area;
 use tables::wide;

@@ -5,36 +5,30 @@ use mathlib.Core.Path.{_≡_, refl, sym, ap, ap₂, _∙_}
 use mathlib.Core.Bool.{Bool, _&&_}
 use mathlib.Core.List.{List}
 use lib.Dec.{eqb}
-use lib.ListN.{length, getD, take}
-use Rattle.lists.specs.Lists.{below, pick}
+use lib.ListN.{length, getD}
+use Rattle.lists.specs.Lists.{below}
 use Rattle.lists.proofs.Counts.{by-test, below-agree}
 use Rattle.rules.specs.Cycles.{Arrangement, successor, label, maximalRings}
 use Rattle.rules.specs.Split.{isCut, cuts}
-use Rattle.rules.specs.Euler.{Census as Counts, someOf, touched, vertexCount, edgeCount, pieceCount, census}
+use Rattle.rules.specs.Euler.{Census as Counts, touched, vertexCount, edgeCount, pieceCount, census}
 use Rattle.rules.specs.Sane.{Sane, Live, Permutes}
 use Rattle.rules.specs.State.{arrangementIn}
 use Rattle.rules.proofs.Permuting.{permutes-same, label-agree, cycles-agree}
 use Rattle.rules.proofs.LabelLaws.{label-inactive}
 use Rattle.rules.proofs.Rings.{label-is, maximal-rings-are, successor-permutes}
 use Rattle.rules.proofs.Counting.{cut-is, cuts-are}
-use Rattle.stars.specs.Grouped.{Grouped}
-use Rattle.stars.specs.Groups.{unmarked, groupOf}
-use Rattle.stars.proofs.Groups.{group-active}
+use Rattle.stars.specs.Groups.{unmarked}
 use Rattle.cycles.specs.Labels.{entryOf, Labelled}
 use Rattle.cycles.specs.Cuts.{cutBy, cutsBy}
 
--- a star with an active half-edge touches its node
-pub group-touched : (nodes edges : ℕ) (source : List ℕ) (marks : List Bool) (star offsets grouped : List ℕ)
-    → Grouped nodes source (take (2 * edges) star) offsets grouped → Sane (arrangementIn nodes edges source marks star)
-    → (n : ℕ) → n < nodes → someOf (pick (unmarked marks) (groupOf offsets grouped n)) ≡ touched (arrangementIn nodes edges source marks star) n
-unfolding touched
-group-touched nodes edges source marks star offsets grouped groups sane n l =
-    ap someOf (group-active nodes edges source marks star offsets grouped groups sane n l)
-
 -- V, its parts shut
-pub vertices-are : (g : Arrangement) → vertexCount g ≡ length (below (touched g) (g .nodes))
+vertices-are : (g : Arrangement) → vertexCount g ≡ length (below (touched g) (g .nodes))
 unfolding vertexCount
 vertices-are g = refl
+
+-- the nodes that pass a test are V where it says which are touched
+pub vertices-by : (g : Arrangement) (t : ℕ → Bool) (v : ℕ) → v ≡ length (below t (g .nodes)) → ((n : ℕ) → n < g .nodes → t n ≡ touched g n) → v ≡ vertexCount g
+vertices-by g t v e same = e ∙ ap length (below-agree t (touched g) (g .nodes) same) ∙ sym (vertices-are g)
 
 -- the census, its parts shut
 pub census-is : (g : Arrangement) (v e f c : ℕ) (t : Bool) → v ≡ vertexCount g → e ≡ edgeCount g → f ≡ length (maximalRings g) → c ≡ pieceCount g

@@ -1,7 +1,7 @@
 -- What linking the stars writes, and what the table of successors holds.
 use Prim.Native.Nat.{ℕ}
 use mathlib.Core.Path.{_≡_}
-use mathlib.Core.Bool.{Bool}
+use mathlib.Core.Bool.{Bool, cond}
 use mathlib.Core.List.{List, [], _∷_}
 use lib.ListN.{getD, set}
 use Rattle.lists.specs.Lists.{pick, lastOf}
@@ -10,14 +10,14 @@ use Rattle.rules.specs.Cycles.{halves, successor}
 use Rattle.rules.specs.Sane.{Live}
 use Rattle.stars.specs.Groups.{InEach}
 
--- the twin of each half-edge gets the half-edge before it; the first one's gets `before`
-abbrev pub linkFrom : ℕ → List ℕ → List ℕ → List ℕ
-linkFrom before [] next = next
-linkFrom before (h ∷ hs) next = linkFrom h hs (set next (twin h) before)
+-- the twin of each half-edge gets the last active one before it, or else `before`
+abbrev pub linkFrom : (ℕ → Bool) → ℕ → List ℕ → List ℕ → List ℕ
+linkFrom active before [] next = next
+linkFrom active before (h ∷ hs) next = linkFrom active (cond (active h) h before) hs (set next (twin h) before)
 
--- the active half-edges of a star in turn, the last one before the first
+-- the half-edges of a star in turn, the last active one before the first
 abbrev pub linkStar : (ℕ → Bool) → List ℕ → List ℕ → List ℕ
-linkStar active star next = let s = pick active star in linkFrom (lastOf 0 s) s next
+linkStar active star next = linkFrom active (lastOf 0 (pick active star)) star next
 
 -- next holds the successor of every active half-edge
 abbrev pub Linked : ℕ → ℕ → List Bool → List ℕ → List ℕ → List ℕ → Type 0

@@ -12,24 +12,25 @@ use tables::PlanarGraph;
 use tables::twin_of;
 use tables::wide;
 
-// The last active half-edge of a star, or 0 where there is none.
+// The last active half-edge of a star, or 0 where there is none. Sought from the star's end, where it
+// mostly stands.
 fn last_active(grouped: &[u16], from: usize, to: usize, dir_edges_marked: &[bool]) -> DirEdgeId
     requires { ⌜ PartWithin (length (now «dir_edges_marked»)) from to (now grouped) ⌝ }
     ensures { λ r. ⌜ r .0 ≡ lastOf 0 (pick (unmarked (now («dir_edges_marked» .entry))) (part from to (now (grouped .entry)))) ⌝ }
 {
-    let mut last = DirEdgeId(0);
-    let mut i = from;
-    while i < to {
+    let mut i = to;
+    while from < i {
+        i -= 1;
         let half = DirEdgeId(grouped[i]);
         if is_active(dir_edges_marked, half) {
-            last = half;
+            return half;
         }
-        i += 1;
     }
-    last
+    DirEdgeId(0)
 }
 
-// The twin of each active half-edge of a star is followed by the active one before it.
+// The twin of each half-edge of a star is followed by the active one before it. A marked one's entry is
+// never read; it is written too, so that the loop does not branch on marks, which come in no order.
 fn link_star(grouped: &[u16], from: usize, to: usize, dir_edges_marked: &[bool], next: &mut [u16])
     requires { ⌜ (PartWithin (length (now «dir_edges_marked»)) from to (now grouped)) × ((h : ℕ) → In h (part from to (now grouped)) → twin h < length (now next)) ⌝ }
     ensures { λ _. ⌜ now (next .exit) ≡ linkStar (unmarked (now («dir_edges_marked» .entry))) (part from to (now (grouped .entry))) (now (next .entry)) ⌝ }
@@ -38,8 +39,8 @@ fn link_star(grouped: &[u16], from: usize, to: usize, dir_edges_marked: &[bool],
     let mut i = from;
     while i < to {
         let half = DirEdgeId(grouped[i]);
+        next[wide(twin_of(half).0)] = previous.0;
         if is_active(dir_edges_marked, half) {
-            next[wide(twin_of(half).0)] = previous.0;
             previous = half;
         }
         i += 1;

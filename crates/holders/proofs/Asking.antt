@@ -2,9 +2,8 @@
 use Prim.Native.Nat.{ℕ, zero, suc, _+_, _*_, _<_, _≤_}
 use native.Mathlib.Omega.{arith}
 use mathlib.Core.Path.{_≡_, refl, sym, ap, subst, _∙_}
-use mathlib.Core.Bool.{Bool}
 use mathlib.Core.List.{List, [], _∷_, _++_, map}
-use lib.ListN.{length, getD, take, drop, replicate, length-map, length-append}
+use lib.ListN.{length, getD, take, drop, length-map, length-append}
 use lib.Seq.{length-take-le}
 use lib.IntN.{ℤ, pos, negsuc}
 use lib.Ieee.{Float}
@@ -12,22 +11,21 @@ use lib.Dec.{eqb}
 use lib.Signed.{ltZ}
 use borrow.Author.Tests.{lt-ltb, le-ltb}
 use Rattle.lists.specs.Lists.{below, over}
-use Rattle.lists.proofs.Counts.{below-le, bit-le}
 use Rattle.geometry.specs.Coordinate.{coordinateBound, value}
 use Rattle.rules.specs.Limits.{limits}
-use Rattle.rules.specs.Face.{Ring, faceNumber, howMany, faceBefore}
+use Rattle.rules.specs.Face.{Ring}
 use Rattle.rules.specs.Ringing.{sideNumber, exactSide}
 use Rattle.rules.specs.Holes.{enclosed, isOpen, ringNodes, ringAt}
 use Rattle.inside.specs.Spots.{Spotted}
 use Rattle.inside.proofs.Tables.{written-within}
 use Rattle.corners.specs.Nodes.{NodesWithin}
 use Rattle.candidates.specs.Candidates.{numbersOf, RingListable, Listable, Candidates}
-use Rattle.candidates.specs.Guesses.{AtMost, Faced}
+use Rattle.candidates.specs.Order.{Orderable}
 use Rattle.holders.specs.Maps.{origins, Map, mapOf, partOf, Laid, Holds}
 use Rattle.holders.specs.Search.{Field}
 use Rattle.holders.specs.Listing.{OpenListed}
 use Rattle.holders.specs.Asked.{Asked, Ready}
-use Rattle.holders.proofs.HoldingLaws.{candidate-ring, nodes-within}
+use Rattle.holders.proofs.HoldingLaws.{nodes-within}
 
 -- ---- of a map in whole numbers
 
@@ -55,24 +53,11 @@ module _ (rs : List Ring) (bound : ℕ) (m : Map) (side : List ℕ) (area : List
       candidates = subst (λ k. Candidates rs (m .nodes) (m .xs) (m .ys) (m .first) (m .size) k rings numbers n) (ready .counted) listed;
     }
 
-    -- and they can be noted by their faces
-    pub ready-faced : (table : List ℕ) → AtMost 0 table → 2 * limits .edges < length table → Faced rings n (m .face) table
-    ready-faced table none long = record {
-      fits = omega (arith, listed .many, below-le (λ i. enclosed (ringAt rs i)) count, ready .few);
-      inRings = listed .inRings;
-      inFace = λ j l. omega (arith, ring j l, ready .map .inFace);
-      inTable = λ j l. omega (arith, ready .faces (getD rings j 0) (omega (arith, ring j l, ready .counted)), ready .few, long);
-      none = none;
-    }
-      where
-        ring : (j : ℕ) → j < n → getD rings j 0 < length rs
-        ring j l = candidate-ring rs m bound rings numbers n ready-field j l .0
-
--- a table of zeros has nothing noted
-pub zeros-none : (n : ℕ) → AtMost 0 (replicate n 0)
-zeros-none zero k = omega arith
-zeros-none (suc n) zero = omega arith
-zeros-none (suc n) (suc k) = zeros-none n k
+    -- and they can be ordered
+    pub ready-orderable : (order : List ℕ) → limits .edges ≤ length order → Orderable numbers n order
+    ready-orderable order room =
+        let few : n ≤ limits .edges = omega (arith, listed .many, ready .fewEnclosed) in
+        record { few = omega arith; inNumbers = listed .inNumbers; room = omega arith }
 
 -- ---- of the lists that extraction wrote
 
@@ -100,15 +85,6 @@ unfolding exactSide
 side-open (pos zero) = refl
 side-open (pos (suc n)) = sym (le-ltb (suc n) 0 (omega arith))
 side-open (negsuc n) = refl
-
--- no more rings come before one than there are
-how-many : (p : Ring → Bool) (rs : List Ring) → howMany p rs ≤ length rs
-how-many p [] = omega arith
-how-many p (r ∷ rs) = omega (arith, how-many p rs, bit-le (p r))
-
-face-few : (rs : List Ring) (r : Ring) → faceNumber rs r ≤ length rs
-unfolding faceNumber
-face-few rs r = how-many (λ s. faceBefore s r) rs
 
 module _ (rs : List Ring) (n : ℕ) (X Y : List Float) (source halfEdges first size face side : List ℕ) (area : List Float) (count : ℕ)
     (asked : Asked rs n X Y source halfEdges first size face side area count) (oldX oldY : List ℤ) (oldNodes : List ℕ) where
@@ -202,12 +178,9 @@ module _ (rs : List Ring) (n : ℕ) (X Y : List Float) (source halfEdges first s
     map = holds;
     fewNodes = asked .placed .few;
     counted = asked .counted;
-    few = omega (arith, asked .counted, asked .shown .few);
     inSide = omega (arith, asked .counted, asked .inSide);
     inArea = omega (arith, asked .counted, asked .shown .inArea);
     each = λ i l. listable i (omega (arith, l, asked .counted));
     fewEnclosed = subst (λ k. length (below (λ i. enclosed (ringAt rs i)) k) ≤ limits .edges) (sym (asked .counted)) (asked .fewEnclosed);
-    faces = λ i l. let low : i < length rs = omega (arith, l, asked .counted) in
-        omega (arith, asked .shown .each i low .faced, face-few rs (ringAt rs i), asked .counted);
     opens = opens;
   }

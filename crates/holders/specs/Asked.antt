@@ -51,10 +51,8 @@ pub record Ready (rs : List Ring) (bound : ℕ) (m : Map) (side : List ℕ) (are
   pub map : Holds rs m bound
   pub fewNodes : bound ≤ limits .nodes
   pub counted : count ≡ length rs
-  pub few : count ≤ 2 * limits .edges
   pub inSide : count ≤ length side
   pub inArea : count ≤ length area
   pub each : (i : ℕ) → i < count → RingListable rs (m .nodes) (m .xs) (m .ys) (m .first) (m .size) side area i
   pub fewEnclosed : length (below (λ i. enclosed (ringAt rs i)) count) ≤ limits .edges
-  pub faces : (i : ℕ) → i < count → getD (m .face) i 0 ≤ count
   pub opens : OpenListed rs side area count

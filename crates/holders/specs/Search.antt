@@ -42,9 +42,12 @@ firstBy rings numbers face count j best =
     eqb best count
     || thenBy (λ i k. ltZ (numberAt numbers i 4) (numberAt numbers k 4)) (λ i k. ltb (getD face (getD rings i 0) 0) (getD face (getD rings k 0) 0)) j best
 
--- the best of the first j candidates that hold the open ring; count where none does
-pub record Best (rs : List Ring) (m : Map) (o : Ring) (rings : List ℕ) (count j best : ℕ) : Type 0 where
+-- candidate j does not hold the open ring, or comes behind the best so far; there is none yet where best is count
+abbrev pub Behind : List Ring → Map → Ring → List ℕ → ℕ → ℕ → ℕ → Type 0
+Behind rs m o rings count best j = holdsAt rs m o rings j ≡ true → (best < count) × (holdsFirst rs (getD rings j 0) (getD rings best 0) ≡ false)
+
+-- the best of the candidates from a place of their order on that hold the open ring; count where none does
+pub record Best (rs : List Ring) (m : Map) (o : Ring) (rings order : List ℕ) (count place best : ℕ) : Type 0 where
   pub low : best ≤ count
-  pub none : best ≡ count → (i : ℕ) → i < j → holdsAt rs m o rings i ≡ false
   pub holder : best < count → holdsAt rs m o rings best ≡ true
-  pub first : best < count → (i : ℕ) → i < j → holdsAt rs m o rings i ≡ true → holdsFirst rs (getD rings i 0) (getD rings best 0) ≡ false
+  pub behind : (k : ℕ) → place ≤ k → k < count → Behind rs m o rings count best (getD order k 0)

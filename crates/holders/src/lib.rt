@@ -19,7 +19,8 @@ mod search;
 
 use candidates::CANDIDATE_NUMBERS;
 use candidates::list_enclosed;
-use candidates::order_by_face;
+use candidates::order_by_start;
+use candidates::write_passing;
 use inside::write_whole;
 pub use listing::HoleList;
 use listing::list_holes;
@@ -27,9 +28,6 @@ use tables::MAX_EDGES;
 use tables::MAX_HALF_EDGES;
 use tables::MAX_NODES;
 use tables::wide;
-
-// A face number is at most the count of rings, of which there are no more than half-edges.
-const FACES: usize = MAX_HALF_EDGES + 1;
 
 // The node where each of the half-edges starts.
 fn write_nodes(half_edges: &[u16], dir_edges_src: &[u16], nodes: &mut [u16])
@@ -43,8 +41,8 @@ fn write_nodes(half_edges: &[u16], dir_edges_src: &[u16], nodes: &mut [u16])
     }
 }
 
-// A record for each open ring of a map in whole numbers: the enclosed rings get boxes, so that few of
-// them are tested.
+// A record for each open ring of a map in whole numbers: the enclosed rings get boxes and an order, so
+// that few of them are tested.
 fn holes_of_map(
     ring_count: u16,
     ring_side: &[u8],
@@ -77,8 +75,11 @@ fn holes_of_map(
         &mut rings,
         &mut numbers,
     );
-    let mut by_face = [0u16; FACES];
-    order_by_face(&rings, count, ring_face, &mut by_face);
+    let mut order = [0u16; MAX_EDGES];
+    let mut least = [0i64; MAX_EDGES];
+    let mut reaches = [0u16; MAX_EDGES];
+    order_by_start(&numbers, count, &mut order);
+    write_passing(&numbers, &order, count, &mut least, &mut reaches);
     list_holes(
         ring_count,
         ring_side,
@@ -86,7 +87,9 @@ fn holes_of_map(
         count,
         &rings,
         &numbers,
-        &by_face,
+        &order,
+        &least,
+        &reaches,
         half_edges,
         nodes,
         ring_first,

@@ -8,13 +8,13 @@ ghost use Rattle.rules.specs.Face.{Ring};
 ghost use Rattle.rules.specs.Holes.{ringAt, holderOf, holesOf};
 ghost use Rattle.holes.specs.Lent.{holeOf};
 ghost use Rattle.inside.specs.Spots.{spotIn};
-ghost use Rattle.candidates.specs.Guesses.{AtMost};
+ghost use Rattle.candidates.specs.Order.{InOrder};
+ghost use Rattle.candidates.specs.Passing.{Passable};
 ghost use Rattle.holders.specs.Maps.{origins, mapOf};
 ghost use Rattle.holders.specs.Holding.{Stamps};
 ghost use Rattle.holders.specs.Search.{Field};
 ghost use Rattle.holders.specs.Listing.{OpenListed};
 use crate::search::best_holder;
-use candidates::guess_holder;
 use candidates::sides_at;
 use holes::Hole;
 use holes::no_holes;
@@ -36,11 +36,12 @@ pub struct HoleList {
 // The number of the ring that holds a ring.
 fn holder_of(
     ring: u16,
-    faces: usize,
     count: usize,
     rings: &[u16],
     numbers: &[i64],
-    by_face: &[u16],
+    order: &[u16],
+    least: &[i64],
+    reaches: &[u16],
     half_edges: &[u16],
     nodes: &[u16],
     ring_first: &[u16],
@@ -52,7 +53,7 @@ fn holder_of(
     stamps: &mut [u16],
 ) -> u16
     requires { ⌜ ((rs : List Ring) × (bound : ℕ) × Field rs (mapOf (now «dir_edges_src») (now xs) (now ys) (now «half_edges») (now nodes) (now «ring_first») (now «ring_length») (now «ring_face»)) bound (now rings) (now numbers) count × Stamps rs (now «dir_edges_src») bound (now stamps) × (ring < length rs)) ⌝ }
-    requires { ⌜ AtMost count (now «by_face») × (getD (now «ring_face») ring 0 ≤ faces) × (faces ≤ length (now «by_face»)) ⌝ }
+    requires { ⌜ InOrder (now numbers) count (now order) × Passable (now numbers) (now order) count (now least) (now reaches) ⌝ }
     ensures holder { λ r. ⌜ ((rs : List Ring) (bound : ℕ) → Field rs (mapOf (now («dir_edges_src» .entry)) (now (xs .entry)) (now (ys .entry)) (now («half_edges» .entry)) (now (nodes .entry)) (now («ring_first» .entry)) (now («ring_length» .entry)) (now («ring_face» .entry))) bound (now (rings .entry)) (now (numbers .entry)) count → ring < length rs → r ≡ holderOf (spotIn (now (xs .entry)) (now (ys .entry))) (origins (now («dir_edges_src» .entry))) rs (ringAt rs ring)) ⌝ }
     ensures stamps { λ _. ⌜ ((rs : List Ring) (bound : ℕ) → Field rs (mapOf (now («dir_edges_src» .entry)) (now (xs .entry)) (now (ys .entry)) (now («half_edges» .entry)) (now (nodes .entry)) (now («ring_first» .entry)) (now («ring_length» .entry)) (now («ring_face» .entry))) bound (now (rings .entry)) (now (numbers .entry)) count → Stamps rs (now («dir_edges_src» .entry)) bound (now (stamps .entry)) → Stamps rs (now («dir_edges_src» .entry)) bound (now (stamps .exit))) ⌝ }
 {
@@ -61,17 +62,18 @@ fn holder_of(
     let corner = wide(sides.left);
     let x = xs[corner];
     let y = ys[corner];
-    let guess = guess_holder(ring_face[i], faces, by_face, numbers, count, x, y);
     let first = wide(ring_first[i]);
     let end = first + wide(ring_length[i]);
     let best = best_holder(
-        guess,
         &nodes[first..end],
         x,
         y,
         count,
         rings,
         numbers,
+        order,
+        least,
+        reaches,
         half_edges,
         nodes,
         ring_first,
@@ -96,7 +98,9 @@ pub fn list_holes(
     count: usize,
     rings: &[u16],
     numbers: &[i64],
-    by_face: &[u16],
+    order: &[u16],
+    least: &[i64],
+    reaches: &[u16],
     half_edges: &[u16],
     nodes: &[u16],
     ring_first: &[u16],
@@ -107,7 +111,7 @@ pub fn list_holes(
     ys: &[i64],
 ) -> HoleList
     requires { ⌜ ((rs : List Ring) × (bound : ℕ) × Field rs (mapOf (now «dir_edges_src») (now xs) (now ys) (now «half_edges») (now nodes) (now «ring_first») (now «ring_length») (now «ring_face»)) bound (now rings) (now numbers) count × OpenListed rs (now «ring_side») (now «ring_area») «ring_count» × (bound ≤ limits .nodes)) ⌝ }
-    requires { ⌜ AtMost count (now «by_face») × ((i : ℕ) → i < «ring_count» → getD (now «ring_face») i 0 ≤ «ring_count») × («ring_count» ≤ length (now «by_face»)) ⌝ }
+    requires { ⌜ InOrder (now numbers) count (now order) × Passable (now numbers) (now order) count (now least) (now reaches) ⌝ }
     ensures holes { λ r. ⌜ ((rs : List Ring) (bound : ℕ) → Field rs (mapOf (now («dir_edges_src» .entry)) (now (xs .entry)) (now (ys .entry)) (now («half_edges» .entry)) (now (nodes .entry)) (now («ring_first» .entry)) (now («ring_length» .entry)) (now («ring_face» .entry))) bound (now (rings .entry)) (now (numbers .entry)) count → OpenListed rs (now («ring_side» .entry)) (now («ring_area» .entry)) «ring_count» → bound ≤ limits .nodes → map holeOf (take (r .count) (r .list)) ≡ holesOf (spotIn (now (xs .entry)) (now (ys .entry))) (origins (now («dir_edges_src» .entry))) rs) ⌝ }
     ensures few { λ r. ⌜ (r .count ≤ limits .edges) × (length (r .list) ≡ limits .edges) ⌝ }
 {
@@ -120,11 +124,12 @@ pub fn list_holes(
         if ring_side[ring] == OPEN {
             let holder = holder_of(
                 i,
-                wide(ring_count),
                 count,
                 rings,
                 numbers,
-                by_face,
+                order,
+                least,
+                reaches,
                 half_edges,
                 nodes,
                 ring_first,

@@ -8,12 +8,17 @@ ghost use lib.ListN.{length, getD};
 ghost use Rattle.rules.specs.Face.{Ring};
 ghost use Rattle.corners.specs.Nodes.{NodesWithin};
 ghost use Rattle.candidates.specs.Candidates.{numbersOf};
+ghost use Rattle.candidates.specs.Order.{InOrder};
+ghost use Rattle.candidates.specs.Passing.{Passable};
 ghost use Rattle.holders.specs.Maps.{mapOf};
 ghost use Rattle.holders.specs.Holding.{Stamps};
 ghost use Rattle.holders.specs.Search.{firstBy, Field, Opening, holdsAt, Best};
 use crate::holding::ring_holds;
 use candidates::doubled_of;
 use candidates::in_box;
+use candidates::next_end;
+use candidates::place_for;
+use candidates::rest_is_larger;
 use tables::wide;
 
 // Whether candidate j comes before the best so far; there is none yet where best is count.
@@ -79,55 +84,10 @@ fn candidate_holds(
     )
 }
 
-// The guess, where it holds the open ring: then most others need no test, since they have larger
-// areas.
-fn try_guess(
-    guess: usize,
-    inner: &[u16],
-    count: usize,
-    rings: &[u16],
-    numbers: &[i64],
-    half_edges: &[u16],
-    nodes: &[u16],
-    ring_first: &[u16],
-    ring_length: &[u16],
-    ring_face: &[u16],
-    dir_edges_src: &[u16],
-    xs: &[i64],
-    ys: &[i64],
-    stamps: &mut [u16],
-) -> usize
-    requires { ⌜ ((rs : List Ring) × (bound : ℕ) × Field rs (mapOf (now «dir_edges_src») (now xs) (now ys) (now «half_edges») (now nodes) (now «ring_first») (now «ring_length») (now «ring_face»)) bound (now rings) (now numbers) count × Stamps rs (now «dir_edges_src») bound (now stamps) × NodesWithin (now inner) bound) ⌝ }
-    ensures best { λ r. ⌜ ((rs : List Ring) (bound : ℕ) (o : Ring) (x y : ℤ) → Field rs (mapOf (now («dir_edges_src» .entry)) (now (xs .entry)) (now (ys .entry)) (now («half_edges» .entry)) (now (nodes .entry)) (now («ring_first» .entry)) (now («ring_length» .entry)) (now («ring_face» .entry))) bound (now (rings .entry)) (now (numbers .entry)) count → Opening o (mapOf (now («dir_edges_src» .entry)) (now (xs .entry)) (now (ys .entry)) (now («half_edges» .entry)) (now (nodes .entry)) (now («ring_first» .entry)) (now («ring_length» .entry)) (now («ring_face» .entry))) bound (now (inner .entry)) x y → Best rs (mapOf (now («dir_edges_src» .entry)) (now (xs .entry)) (now (ys .entry)) (now («half_edges» .entry)) (now (nodes .entry)) (now («ring_first» .entry)) (now («ring_length» .entry)) (now («ring_face» .entry))) o (now (rings .entry)) count 0 r) ⌝ }
-    ensures stamps { λ _. ⌜ ((rs : List Ring) (bound : ℕ) → Field rs (mapOf (now («dir_edges_src» .entry)) (now (xs .entry)) (now (ys .entry)) (now («half_edges» .entry)) (now (nodes .entry)) (now («ring_first» .entry)) (now («ring_length» .entry)) (now («ring_face» .entry))) bound (now (rings .entry)) (now (numbers .entry)) count → Stamps rs (now («dir_edges_src» .entry)) bound (now (stamps .entry)) → Stamps rs (now («dir_edges_src» .entry)) bound (now (stamps .exit))) ⌝ }
-{
-    if guess < count {
-        if candidate_holds(
-            guess,
-            inner,
-            count,
-            rings,
-            numbers,
-            half_edges,
-            nodes,
-            ring_first,
-            ring_length,
-            ring_face,
-            dir_edges_src,
-            xs,
-            ys,
-            stamps,
-        ) {
-            return guess;
-        }
-    }
-    count
-}
-
-// The best with candidate j: it is asked only where it would be the best, and where the open ring's
-// corner is not beside its box.
+// The best with the candidate at a place of the order: it is asked only where it would be the best,
+// and where the open ring's corner is not beside its box.
 fn improve(
-    j: usize,
+    place: usize,
     best: usize,
     inner: &[u16],
     x: i64,
@@ -135,6 +95,7 @@ fn improve(
     count: usize,
     rings: &[u16],
     numbers: &[i64],
+    order: &[u16],
     half_edges: &[u16],
     nodes: &[u16],
     ring_first: &[u16],
@@ -145,10 +106,12 @@ fn improve(
     ys: &[i64],
     stamps: &mut [u16],
 ) -> usize
-    requires { ⌜ ((rs : List Ring) × (bound : ℕ) × (o : Ring) × Field rs (mapOf (now «dir_edges_src») (now xs) (now ys) (now «half_edges») (now nodes) (now «ring_first») (now «ring_length») (now «ring_face»)) bound (now rings) (now numbers) count × Opening o (mapOf (now «dir_edges_src») (now xs) (now ys) (now «half_edges») (now nodes) (now «ring_first») (now «ring_length») (now «ring_face»)) bound (now inner) x y × Stamps rs (now «dir_edges_src») bound (now stamps) × (j < count) × (best ≤ count)) ⌝ }
-    ensures best { λ r. ⌜ ((rs : List Ring) (bound : ℕ) (o : Ring) → Field rs (mapOf (now («dir_edges_src» .entry)) (now (xs .entry)) (now (ys .entry)) (now («half_edges» .entry)) (now (nodes .entry)) (now («ring_first» .entry)) (now («ring_length» .entry)) (now («ring_face» .entry))) bound (now (rings .entry)) (now (numbers .entry)) count → Opening o (mapOf (now («dir_edges_src» .entry)) (now (xs .entry)) (now (ys .entry)) (now («half_edges» .entry)) (now (nodes .entry)) (now («ring_first» .entry)) (now («ring_length» .entry)) (now («ring_face» .entry))) bound (now (inner .entry)) x y → Best rs (mapOf (now («dir_edges_src» .entry)) (now (xs .entry)) (now (ys .entry)) (now («half_edges» .entry)) (now (nodes .entry)) (now («ring_first» .entry)) (now («ring_length» .entry)) (now («ring_face» .entry))) o (now (rings .entry)) count j best → Best rs (mapOf (now («dir_edges_src» .entry)) (now (xs .entry)) (now (ys .entry)) (now («half_edges» .entry)) (now (nodes .entry)) (now («ring_first» .entry)) (now («ring_length» .entry)) (now («ring_face» .entry))) o (now (rings .entry)) count (j + 1) r) ⌝ }
+    requires { ⌜ ((rs : List Ring) × (bound : ℕ) × (o : Ring) × Field rs (mapOf (now «dir_edges_src») (now xs) (now ys) (now «half_edges») (now nodes) (now «ring_first») (now «ring_length») (now «ring_face»)) bound (now rings) (now numbers) count × Opening o (mapOf (now «dir_edges_src») (now xs) (now ys) (now «half_edges») (now nodes) (now «ring_first») (now «ring_length») (now «ring_face»)) bound (now inner) x y × Stamps rs (now «dir_edges_src») bound (now stamps) × (place < count) × (best ≤ count)) ⌝ }
+    requires { ⌜ InOrder (now numbers) count (now order) ⌝ }
+    ensures best { λ r. ⌜ ((rs : List Ring) (bound : ℕ) (o : Ring) → Field rs (mapOf (now («dir_edges_src» .entry)) (now (xs .entry)) (now (ys .entry)) (now («half_edges» .entry)) (now (nodes .entry)) (now («ring_first» .entry)) (now («ring_length» .entry)) (now («ring_face» .entry))) bound (now (rings .entry)) (now (numbers .entry)) count → Opening o (mapOf (now («dir_edges_src» .entry)) (now (xs .entry)) (now (ys .entry)) (now («half_edges» .entry)) (now (nodes .entry)) (now («ring_first» .entry)) (now («ring_length» .entry)) (now («ring_face» .entry))) bound (now (inner .entry)) x y → Best rs (mapOf (now («dir_edges_src» .entry)) (now (xs .entry)) (now (ys .entry)) (now («half_edges» .entry)) (now (nodes .entry)) (now («ring_first» .entry)) (now («ring_length» .entry)) (now («ring_face» .entry))) o (now (rings .entry)) (now (order .entry)) count (place + 1) best → Best rs (mapOf (now («dir_edges_src» .entry)) (now (xs .entry)) (now (ys .entry)) (now («half_edges» .entry)) (now (nodes .entry)) (now («ring_first» .entry)) (now («ring_length» .entry)) (now («ring_face» .entry))) o (now (rings .entry)) (now (order .entry)) count place r) ⌝ }
     ensures stamps { λ _. ⌜ ((rs : List Ring) (bound : ℕ) → Field rs (mapOf (now («dir_edges_src» .entry)) (now (xs .entry)) (now (ys .entry)) (now («half_edges» .entry)) (now (nodes .entry)) (now («ring_first» .entry)) (now («ring_length» .entry)) (now («ring_face» .entry))) bound (now (rings .entry)) (now (numbers .entry)) count → Stamps rs (now («dir_edges_src» .entry)) bound (now (stamps .entry)) → Stamps rs (now («dir_edges_src» .entry)) bound (now (stamps .exit))) ⌝ }
 {
+    let j = wide(order[place]);
     if comes_first(j, best, count, rings, numbers, ring_face) {
         if in_box(numbers, j, x, y) {
             if candidate_holds(
@@ -174,15 +137,19 @@ fn improve(
     best
 }
 
-// The best of all candidates that hold the open ring, or count.
+// The best of all candidates that hold the open ring, or count. What begins to the right of its corner
+// is not met. From there the search goes to the left, since the nearest ring is mostly the holder, and
+// ends where all that is left is larger.
 pub fn best_holder(
-    guess: usize,
     inner: &[u16],
     x: i64,
     y: i64,
     count: usize,
     rings: &[u16],
     numbers: &[i64],
+    order: &[u16],
+    least: &[i64],
+    reaches: &[u16],
     half_edges: &[u16],
     nodes: &[u16],
     ring_first: &[u16],
@@ -194,29 +161,19 @@ pub fn best_holder(
     stamps: &mut [u16],
 ) -> usize
     requires { ⌜ ((rs : List Ring) × (bound : ℕ) × (o : Ring) × Field rs (mapOf (now «dir_edges_src») (now xs) (now ys) (now «half_edges») (now nodes) (now «ring_first») (now «ring_length») (now «ring_face»)) bound (now rings) (now numbers) count × Opening o (mapOf (now «dir_edges_src») (now xs) (now ys) (now «half_edges») (now nodes) (now «ring_first») (now «ring_length») (now «ring_face»)) bound (now inner) x y × Stamps rs (now «dir_edges_src») bound (now stamps)) ⌝ }
-    ensures best { λ r. ⌜ ((rs : List Ring) (bound : ℕ) (o : Ring) → Field rs (mapOf (now («dir_edges_src» .entry)) (now (xs .entry)) (now (ys .entry)) (now («half_edges» .entry)) (now (nodes .entry)) (now («ring_first» .entry)) (now («ring_length» .entry)) (now («ring_face» .entry))) bound (now (rings .entry)) (now (numbers .entry)) count → Opening o (mapOf (now («dir_edges_src» .entry)) (now (xs .entry)) (now (ys .entry)) (now («half_edges» .entry)) (now (nodes .entry)) (now («ring_first» .entry)) (now («ring_length» .entry)) (now («ring_face» .entry))) bound (now (inner .entry)) x y → Best rs (mapOf (now («dir_edges_src» .entry)) (now (xs .entry)) (now (ys .entry)) (now («half_edges» .entry)) (now (nodes .entry)) (now («ring_first» .entry)) (now («ring_length» .entry)) (now («ring_face» .entry))) o (now (rings .entry)) count count r) ⌝ }
+    requires { ⌜ InOrder (now numbers) count (now order) × Passable (now numbers) (now order) count (now least) (now reaches) ⌝ }
+    ensures best { λ r. ⌜ ((rs : List Ring) (bound : ℕ) (o : Ring) → Field rs (mapOf (now («dir_edges_src» .entry)) (now (xs .entry)) (now (ys .entry)) (now («half_edges» .entry)) (now (nodes .entry)) (now («ring_first» .entry)) (now («ring_length» .entry)) (now («ring_face» .entry))) bound (now (rings .entry)) (now (numbers .entry)) count → Opening o (mapOf (now («dir_edges_src» .entry)) (now (xs .entry)) (now (ys .entry)) (now («half_edges» .entry)) (now (nodes .entry)) (now («ring_first» .entry)) (now («ring_length» .entry)) (now («ring_face» .entry))) bound (now (inner .entry)) x y → Best rs (mapOf (now («dir_edges_src» .entry)) (now (xs .entry)) (now (ys .entry)) (now («half_edges» .entry)) (now (nodes .entry)) (now («ring_first» .entry)) (now («ring_length» .entry)) (now («ring_face» .entry))) o (now (rings .entry)) (now (order .entry)) count 0 r) ⌝ }
     ensures stamps { λ _. ⌜ ((rs : List Ring) (bound : ℕ) → Field rs (mapOf (now («dir_edges_src» .entry)) (now (xs .entry)) (now (ys .entry)) (now («half_edges» .entry)) (now (nodes .entry)) (now («ring_first» .entry)) (now («ring_length» .entry)) (now («ring_face» .entry))) bound (now (rings .entry)) (now (numbers .entry)) count → Stamps rs (now («dir_edges_src» .entry)) bound (now (stamps .entry)) → Stamps rs (now («dir_edges_src» .entry)) bound (now (stamps .exit))) ⌝ }
 {
-    let mut best = try_guess(
-        guess,
-        inner,
-        count,
-        rings,
-        numbers,
-        half_edges,
-        nodes,
-        ring_first,
-        ring_length,
-        ring_face,
-        dir_edges_src,
-        xs,
-        ys,
-        stamps,
-    );
-    let mut j = 0;
-    while j < count {
+    let mut best = count;
+    let mut end = place_for(numbers, order, count, x);
+    while 0 < end {
+        let place = end - 1;
+        if rest_is_larger(numbers, count, best, least, place) {
+            return best;
+        }
         best = improve(
-            j,
+            place,
             best,
             inner,
             x,
@@ -224,6 +181,7 @@ pub fn best_holder(
             count,
             rings,
             numbers,
+            order,
             half_edges,
             nodes,
             ring_first,
@@ -234,7 +192,7 @@ pub fn best_holder(
             ys,
             stamps,
         );
-        j += 1;
+        end = next_end(numbers, order, count, reaches, place, x);
     }
     best
 }

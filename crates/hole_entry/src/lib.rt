@@ -33,11 +33,12 @@ pub struct Ringed {
     pub reply: RingsReply,
 }
 
-// What the core hands to the entry: the answer, and the holes to write.
+// What the core hands to the entry: the holes to write, and the answer. The records come first, so that
+// no padding is copied with them: a copy between places that are not aligned to each other is slow.
 pub struct Made {
-    pub ringed: Ringed,
     pub list: [Hole; MAX_EDGES],
     pub count: usize,
+    pub ringed: Ringed,
 }
 
 // A refusal: no hole is to be written.
@@ -46,12 +47,12 @@ fn turned_down(graph: PlanarGraph, why: Refusal) -> Made
 {
     let list = holes::no_holes();
     Made {
+        list,
+        count: 0,
         ringed: Ringed {
             graph,
             reply: RingsReply::Refused(why),
         },
-        list,
-        count: 0,
     }
 }
 

@@ -85,11 +85,11 @@ pub fn extract_checked(
     let count = found.count;
     let reply = answer(done, count);
     Made {
+        list,
+        count,
         ringed: Ringed {
             graph: after,
             reply,
         },
-        list,
-        count,
     }
 }

@@ -1,16 +1,17 @@
 -- Piece numbers in every state that has the tables: fills from the seeds that the tables give number its pieces.
-use Prim.Native.Nat.{ℕ, _+_, _*_, _<_, _≤_}
+use Prim.Native.Nat.{ℕ, suc, _+_, _*_, _<_, _≤_}
 use native.Mathlib.Omega.{arith}
-use mathlib.Core.Path.{_≡_, ap, _∙_, subst}
-use mathlib.Core.Bool.{Bool, cond}
+use mathlib.Core.Path.{_≡_, refl, ap, _∙_, subst}
+use mathlib.Core.Bool.{Bool, true, false, cond}
 use mathlib.Core.List.{List, []}
-use lib.Dec.{eqb}
+use lib.Dec.{eqb, ltb}
 use lib.Ieee.{Float}
 use lib.ListN.{length, getD, take}
 use Rattle.lists.specs.Lists.{over}
 use Rattle.lists.specs.Sort.{sorted}
+use borrow.Author.Tests.{lt-ltb}
 use Rattle.lists.proofs.Counts.{below-agree}
-use Rattle.rules.specs.Euler.{pieceCount}
+use Rattle.rules.specs.Euler.{touched, pieceCount}
 use Rattle.rules.specs.Pieces.{seedBefore}
 use Rattle.rules.specs.Sane.{Sane}
 use Rattle.rules.specs.LineIds.{Tracings}
@@ -110,3 +111,16 @@ pub count-each : (graph : PlanarGraph) (xs ys : List Float) (source : List ℕ) 
     → InEach (graph .«node_count») (graph .«edge_count») source marks offsets grouped (λ g. count ≡ pieceCount g)
 unfolding arrangement
 count-each graph xs ys source marks offsets grouped pieces count r star groups sane = r [] [] [] [] [] [] star (record { place = []; id = []; next = [] }) groups sane .number
+
+-- a number is above 0 where there is one
+some-number : (t : Bool) (k : ℕ) → ltb 0 (cond t (suc k) 0) ≡ t
+some-number true k = lt-ltb 0 (suc k) (omega arith)
+some-number false k = refl
+
+-- and the nodes with an active half-edge are those that have a number
+pub touched-each : (graph : PlanarGraph) (xs ys : List Float) (source : List ℕ) (marks : List Bool) (offsets grouped pieces : List ℕ) (count : ℕ)
+    → InEachState graph xs ys source marks offsets grouped (λ s. Numbered s pieces count)
+    → InEach (graph .«node_count») (graph .«edge_count») source marks offsets grouped (λ g. (n : ℕ) → n < graph .«node_count» → ltb 0 (getD pieces n 0) ≡ touched g n)
+unfolding arrangement
+touched-each graph xs ys source marks offsets grouped pieces count r star groups sane n l =
+    ap (ltb 0) (r [] [] [] [] [] [] star (record { place = []; id = []; next = [] }) groups sane .each n l) ∙ some-number _ _

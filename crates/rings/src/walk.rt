@@ -98,32 +98,31 @@ fn walk_unseen(
     let mut at: u16 = 0;
     let mut k: u16 = 0;
     while k < 2 * edges {
-        if is_active(dir_edges_marked, DirEdgeId(k)) {
-            if !seen[wide(k)] {
-                let start = DirEdgeId(k);
-                let tally = walk_ring(
-                    start,
-                    next,
-                    dir_edges_src,
-                    nodes_x,
-                    nodes_y,
-                    seen,
-                    half_edges,
-                    keys,
-                    at,
-                );
-                write_row(
-                    count,
-                    at,
-                    tally,
-                    ring_first,
-                    ring_length,
-                    ring_side,
-                    ring_area,
-                );
-                count += 1;
-                at += tally.count;
-            }
+        let fresh = is_active(dir_edges_marked, DirEdgeId(k)) & !seen[wide(k)];
+        if fresh {
+            let start = DirEdgeId(k);
+            let tally = walk_ring(
+                start,
+                next,
+                dir_edges_src,
+                nodes_x,
+                nodes_y,
+                seen,
+                half_edges,
+                keys,
+                at,
+            );
+            write_row(
+                count,
+                at,
+                tally,
+                ring_first,
+                ring_length,
+                ring_side,
+                ring_area,
+            );
+            count += 1;
+            at += tally.count;
         }
         k += 1;
     }

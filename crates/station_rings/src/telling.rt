@@ -16,11 +16,12 @@ use tables::MAX_EDGES;
 use tables::Refusal;
 use tables::refusal_number;
 
-// What the core tells the entry: the number to answer, and the holes to write.
+// What the core tells the entry: the holes to write, and the number to answer. The records come first,
+// as in `Made`.
 pub struct Told {
-    pub number: u32,
     pub list: [Hole; MAX_EDGES],
     pub count: usize,
+    pub number: u32,
 }
 
 // A refusal: no hole is to be written.
@@ -29,9 +30,9 @@ fn turned_down(why: Refusal) -> Told
 {
     let list = holes::no_holes();
     Told {
-        number: refusal_number(why),
         list,
         count: 0,
+        number: refusal_number(why),
     }
 }
 
@@ -83,8 +84,8 @@ pub fn rings_core(
     let done = made.ringed;
     let number = answer_rings(state, reply, done);
     Told {
-        number,
         list,
         count,
+        number,
     }
 }

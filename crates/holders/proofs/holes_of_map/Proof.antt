@@ -1,5 +1,5 @@
--- `holes_of_map` meets its contract: the enclosed rings are listed and noted by face, and each open one is searched for.
-use Prim.Native.Nat.{ℕ, _+_, _*_}
+-- `holes_of_map` meets its contract: the enclosed rings are listed and ordered, and each open one is searched for.
+use Prim.Native.Nat.{ℕ, _≤_}
 use native.Mathlib.Omega.{arith}
 use mathlib.Core.List.{List}
 use lib.IntN.{ℤ}
@@ -9,7 +9,9 @@ use Rattle.candidates.specs.Candidates.{Candidates}
 use Rattle.holders.specs.Maps.{Map, mapOf}
 use Rattle.holders.specs.Search.{Field}
 use Rattle.holders.specs.Asked.{Ready}
-use Rattle.holders.proofs.Asking.{ready-listable, ready-field, ready-faced, zeros-none}
+use Rattle.candidates.specs.Order.{InOrder}
+use Rattle.candidates.proofs.Ordering.{row-in-order}
+use Rattle.holders.proofs.Asking.{ready-listable, ready-field, ready-orderable}
 use borrow.Author.Needs.{needs}
 use Rattle.holders.proofs.holes_of_map.Statement.{statement}
 use Rattle.holders.proofs.holes_of_map.Tie as tie
@@ -54,18 +56,50 @@ list-enclosed-requires c κs =
     let s = c .before .before .before .before .before .before .before .before .before .before in
     (s .pre .0, ready-listable (s .pre .0) (s .pre .1) (here s) (s .args .ring-side .now) (s .args .ring-area .now) (s .args .ring-count) (s .pre .2) _ _ (omega arith) (omega arith))
 
-slice-aggregate-order-by-face : tie.Need-slice-aggregate-order-by-face
-slice-aggregate-order-by-face c = search needs
+slice-aggregate-order-by-start : tie.Need-slice-aggregate-order-by-start
+slice-aggregate-order-by-start c = search needs
 
-slice-aggregate-order-by-face-2 : tie.Need-slice-aggregate-order-by-face-2
-slice-aggregate-order-by-face-2 c = search needs
+slice-aggregate-order-by-start-2 : tie.Need-slice-aggregate-order-by-start-2
+slice-aggregate-order-by-start-2 c = search needs
 
-order-by-face-requires : tie.Need-order-by-face-requires
-order-by-face-requires c κs =
+order-by-start-requires : tie.Need-order-by-start-requires
+order-by-start-requires c κs =
     let e = c .before .before .before .before in
     let s = start e in
-    ready-faced (s .pre .0) (s .pre .1) (here s) (s .args .ring-side .now) (s .args .ring-area .now) (s .args .ring-count) (s .pre .2) (rings e) (numbers e) (e .list-enclosed .result) (listed e (s .pre .0) (s .pre .1) (s .pre .2))
-    _ (zeros-none (2 * limits .edges + 1)) (omega arith)
+    ready-orderable (s .pre .0) (s .pre .1) (here s) (s .args .ring-side .now) (s .args .ring-area .now) (s .args .ring-count) (s .pre .2) (rings e) (numbers e) (e .list-enclosed .result) (listed e (s .pre .0) (s .pre .1) (s .pre .2))
+    _ (omega arith)
+
+-- there are no more candidates than edges
+few : (c : tie.After-list-enclosed) → c .list-enclosed .result ≤ limits .edges
+few c = let s = start c in omega (arith, listed c (s .pre .0) (s .pre .1) (s .pre .2) .many, s .pre .2 .fewEnclosed)
+
+-- their order
+abbrev order : tie.After-order-by-start → List ℕ
+order c = c .order-by-start .last .1 .1 .0
+
+ordered : (c : tie.After-order-by-start) → let e = c .before .before .before .before .before in InOrder (numbers e) (e .list-enclosed .result) (order c)
+ordered c =
+    let e = c .before .before .before .before .before in
+    let s = start e in
+    row-in-order (numbers e) (e .list-enclosed .result) (order c) _ (listed e (s .pre .0) (s .pre .1) (s .pre .2) .inNumbers) (omega (arith, few e, c .order-by-start .kept .1 .1 .0)) (c .order-by-start .ensures)
+
+slice-aggregate-write-passing : tie.Need-slice-aggregate-write-passing
+slice-aggregate-write-passing c = search needs
+
+slice-aggregate-write-passing-2 : tie.Need-slice-aggregate-write-passing-2
+slice-aggregate-write-passing-2 c = search needs
+
+slice-aggregate-write-passing-3 : tie.Need-slice-aggregate-write-passing-3
+slice-aggregate-write-passing-3 c = search needs
+
+slice-aggregate-write-passing-4 : tie.Need-slice-aggregate-write-passing-4
+slice-aggregate-write-passing-4 c = search needs
+
+write-passing-requires : tie.Need-write-passing-requires
+write-passing-requires c κs =
+    let d = c .before .before .before .before .before in
+    let n = few (d .before .before .before .before .before) in
+    (ordered d, omega (arith, n), omega (arith, n), omega (arith, n))
 
 slice-aggregate-list-holes : tie.Need-slice-aggregate-list-holes
 slice-aggregate-list-holes c = search needs
@@ -76,16 +110,23 @@ slice-aggregate-list-holes-2 c = search needs
 slice-aggregate-list-holes-3 : tie.Need-slice-aggregate-list-holes-3
 slice-aggregate-list-holes-3 c = search needs
 
+slice-aggregate-list-holes-4 : tie.Need-slice-aggregate-list-holes-4
+slice-aggregate-list-holes-4 c = search needs
+
+slice-aggregate-list-holes-5 : tie.Need-slice-aggregate-list-holes-5
+slice-aggregate-list-holes-5 c = search needs
+
 list-holes-requires : tie.Need-list-holes-requires
 list-holes-requires c κs =
-    let e = c .before .before .before .before .before .before .before .before .before in
+    let d = c .before .before .before .before .before .before .before .before .before .before .before .before .before in
+    let e = d .before .before .before .before .before in
     let s = start e in
     let r = s .pre .2 in
-    ((s .pre .0, s .pre .1, searched e (s .pre .0) (s .pre .1) r, r .opens, r .fewNodes), (c .before .before .before .before .order-by-face .ensures, r .faces, omega (arith, r .few, c .before .before .before .before .order-by-face .kept .1 .1 .1 .0)))
+    ((s .pre .0, s .pre .1, searched e (s .pre .0) (s .pre .1) r, r .opens, r .fewNodes), (ordered d, c .before .before .before .before .before .before .before .write-passing .ensures))
 
 returns : tie.Need-returns
 returns c =
-    let e = c .before .before .before .before .before .before .before .before .before .before in
+    let e = c .before .before .before .before .before .before .before .before .before .before .before .before .before .before .before .before .before .before .before in
     (λ rs bound ready. c .list-holes .ensures .0 rs bound (searched e rs bound ready) (ready .opens) (ready .fewNodes), c .list-holes .ensures .1)
 
 pub holes-of-map-spec : {M : Type 1} → statement M
@@ -95,11 +136,18 @@ holes-of-map-spec =
     slice-aggregate-list-enclosed
     slice-aggregate-list-enclosed-2
     list-enclosed-requires
-    slice-aggregate-order-by-face
-    slice-aggregate-order-by-face-2
-    order-by-face-requires
+    slice-aggregate-order-by-start
+    slice-aggregate-order-by-start-2
+    order-by-start-requires
+    slice-aggregate-write-passing
+    slice-aggregate-write-passing-2
+    slice-aggregate-write-passing-3
+    slice-aggregate-write-passing-4
+    write-passing-requires
     slice-aggregate-list-holes
     slice-aggregate-list-holes-2
     slice-aggregate-list-holes-3
+    slice-aggregate-list-holes-4
+    slice-aggregate-list-holes-5
     list-holes-requires
     returns)

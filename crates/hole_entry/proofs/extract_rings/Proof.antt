@@ -102,8 +102,8 @@ known : (r : Made) {vs : List Val} → Is D.the-row r vs → AreAll (fields D.th
 known r {vs} is = LL.owed D.the-type D′.the-laws r vs is
 
 -- the holes as an array of records
-holes-are : (r : Made) {vs : List Val} → Is D.the-row r vs → Is Records (r .list) (machine r .1 .0)
-holes-are r is = listed (r .list) (machine r .1 .0) (known r is .1 .0)
+holes-are : (r : Made) {vs : List Val} → Is D.the-row r vs → Is Records (r .list) (machine r .0)
+holes-are r is = listed (r .list) (machine r .0) (known r is .0)
 
 -- the core's contract
 abbrev Core : {M : Type 1} (𝓤 : URA M) (H : Heap 𝓤) (A : Atoms 𝓤) (mem : Memory → SProp 𝓤) (run : Routine → Fun 𝓤) → Contract 𝓤
@@ -166,20 +166,20 @@ module _ {M : Type 1} (𝓤 : URA M) (H : Heap 𝓤) (A : Atoms 𝓤) (W : Given
 
   -- the records to write, for `fill_holes`
   abbrev filling : Made → Fill 𝓤 H A mem run .Ghost
-  filling r = to-fill 𝓤 H A W mem run (κs .0) (qs .0) (a .0) (r .list) (machine r .1 .0) (r .count)
+  filling r = to-fill 𝓤 H A W mem run (κs .0) (qs .0) (a .0) (r .list) (machine r .0) (r .count)
 
   -- ---- the exit
   -- the records are written as it says
   exits : (r : Made) (ws : Ends) (zs : List Hole × (Unit {0} × (Unit {0} × Unit {0}))) {vs : List Val} → Said r ws → zs .0 ≡ filled (r .list) (r .count) (a .0 .now) → Is D.the-row r vs
-      → ent 𝓤 (⋆ 𝓤 H A ((‵ (flft (κs .0) (qs .0)) ⊛ ‵ ftrue) ∷ ‵ (lasts fill.ended (κs .0, tt) (a .0, (r .list, (r .count, tt))) zs) ∷ raw (alive 𝓤 H A core.signature (κs .1) (qs .1)) ∷ ‵ (lasts core.ended (κs .1) passed ws) ∷ [])) (Post (only (machine r .0)))
+      → ent 𝓤 (⋆ 𝓤 H A ((‵ (flft (κs .0) (qs .0)) ⊛ ‵ ftrue) ∷ ‵ (lasts fill.ended (κs .0, tt) (a .0, (r .list, (r .count, tt))) zs) ∷ raw (alive 𝓤 H A core.signature (κs .1) (qs .1)) ∷ ‵ (lasts core.ended (κs .1) passed ws) ∷ [])) (Post (only (machine r .1 .1 .0)))
   exits r ws zs e e′ is =
       let same : lentHoles (zs .0) ≡ writtenOver r (lentHoles (a .0 .now)) = ap lentHoles e′ ∙ map-filled holeOf (r .list) (r .count) (a .0 .now) (omega (arith, e .few, holes-are r is .1 .0 .1)) in
       qed W ((‵ (flft (κs .0) (qs .0)) ⊛ ‵ ftrue) ∷ ‵ (lasts fill.ended (κs .0, tt) (a .0, (r .list, (r .count, tt))) zs) ∷ raw (alive 𝓤 H A core.signature (κs .1) (qs .1)) ∷ ‵ (lasts core.ended (κs .1) passed ws) ∷ []) ∵
-      suffices ! _ (ends-at 𝓤 H A extract-rings.ended stayed (extract-rings.clauses 𝓤 H A mem run) W ((κs, qs, bounds, a, machs), tt) (only (machine r .0)) (r .ringed) (zs .0, ws .1) (all-fit κs (extract-rings.ended .signature .params) (extract-rings.ended .kept) a (zs .0, ws .1))) $
+      suffices ! _ (ends-at 𝓤 H A extract-rings.ended stayed (extract-rings.clauses 𝓤 H A mem run) W ((κs, qs, bounds, a, machs), tt) (only (machine r .1 .1 .0)) (r .ringed) (zs .0, ws .1) (all-fit κs (extract-rings.ended .signature .params) (extract-rings.ended .kept) a (zs .0, ws .1))) $
       says ! (ap (λ (l : List rules.Hole). leftWith (ringsReply (r .ringed .reply)) (held (r .ringed .graph)) (record { rings = written ws; holes = l })) same ∙ e .done (lentHoles (a .0 .now)) (length-map (a .0 .now) holeOf)) $
       split ! $ move ! (0 ∷ 3 ∷ []) $ join ! $ frame ! $
       -- [true; what is said of the list; what is said of the rest]
-      move ! (1 ∷ []) $ fsplit ! $ move ! (3 ∷ []) $ fsplit ! $ move ! (2 ∷ 1 ∷ []) $ fjoin ! $ frame ! $ owned ! E.the-row (Is E.the-row) (LL.makes E.the-type E′.the-plain 𝓤 H A) (r .ringed) (machine r .0) (known r is .0) $ keep ! (0 ∷ []) $ done !
+      move ! (1 ∷ []) $ fsplit ! $ move ! (3 ∷ []) $ fsplit ! $ move ! (2 ∷ 1 ∷ []) $ fjoin ! $ frame ! $ owned ! E.the-row (Is E.the-row) (LL.makes E.the-type E′.the-plain 𝓤 H A) (r .ringed) (machine r .1 .1 .0) (known r is .1 .1 .0) $ keep ! (0 ∷ []) $ done !
 
   module _ (C : Calls 𝓤 H) (Λ : Loops 𝓤 H) (fm : FmC 𝓤 H (W .laws) C) (core-known : Triple 𝓤 (C #hole-entry·extract-core) (Core 𝓤 H A mem run)) (fill-known : Triple 𝓤 (C #holes·fill-holes) (Fill 𝓤 H A mem run)) where
     -- the whole body
@@ -218,12 +218,12 @@ module _ {M : Type 1} (𝓤 : URA M) (H : Heap 𝓤) (A : Atoms 𝓤) (W : Given
         assigns ! (addr ! (from ! (fld ! refl (hop ! (look-in ! 61 (sub ! 0 refl (whole !))) (stop !))))) (from ! (stop !)) (init ! 5 refl (tt, tt)) $
         assigns ! (agg ! (and-then ! (load ! (from ! (stop !)) (look ! 5 refl)) (and-then ! (load ! (from ! (fld ! refl (stop !))) (look-in ! 61 (sub ! 1 refl (whole !)))) (no-more !)))) (from ! (stop !)) (init ! 3 refl (counted (are .0 .0 .1 .0))) $
         -- the records are written
-        move ! (2 ∷ []) $ use1 W (raw (Fill 𝓤 H A mem run .pre (filling r))) (asks 𝓤 H A W mem run (κs .0) (qs .0) (a .0) (r .list) (machine r .1 .0) (r .count) (holes-are r is) (known r is .1 .1 .0) (e .roomed) (e .few)) $
-        calls-at ! fm (Fill 𝓤 H A mem run) fill-known (filling r) (and-then ! (load ! (from ! (stop !)) (look ! 3 refl)) (and-then ! (load ! (from ! (fld ! refl (stop !))) (look-in ! 35 (sub ! 1 refl (whole !)))) (and-then ! (load ! (from ! (fld ! refl (stop !))) (look-in ! 35 (sub ! 2 refl (whole !)))) (no-more !)))) (λ v′.
+        move ! (2 ∷ []) $ use1 W (raw (Fill 𝓤 H A mem run .pre (filling r))) (asks 𝓤 H A W mem run (κs .0) (qs .0) (a .0) (r .list) (machine r .0) (r .count) (holes-are r is) (known r is .1 .0) (e .roomed) (e .few)) $
+        calls-at ! fm (Fill 𝓤 H A mem run) fill-known (filling r) (and-then ! (load ! (from ! (stop !)) (look ! 3 refl)) (and-then ! (load ! (from ! (fld ! refl (stop !))) (look-in ! 35 (sub ! 0 refl (whole !)))) (and-then ! (load ! (from ! (fld ! refl (stop !))) (look-in ! 35 (sub ! 1 refl (whole !)))) (no-more !)))) (λ v′.
         use1 W (later (some (λ (t : Unit {0}). ((‵ (flft (κs .0) (qs .0)) ⊛ ‵ ftrue) ⊛ ‵ (unit .own t (v′ ∷ []))) ⊛ some (λ (zs : List Hole × (Unit {0} × (Unit {0} × Unit {0}))). ‵ (lasts fill.ended (κs .0, tt) (a .0, (r .list, (r .count, tt))) zs) ⊛ raw (fact 𝓤 (zs .0 ≡ filled (r .list) (r .count) (a .0 .now))))))) (id⊢ 𝓤 _) $ await ! tt $ pick ! (λ t.
         split ! $ move ! (1 ∷ []) $ pick ! (λ zs. split ! $ move ! (1 ∷ []) $ heard ! (zs .0 ≡ filled (r .list) (r .count) (a .0 .now)) (λ e′. move ! (1 ∷ []) $ split ! $ move ! (1 ∷ []) $ facts ! unit (Is unit) (shows 𝓤 H A unit) t (v′ ∷ []) (λ is′.
         land ! (from ! (stop !)) (init ! 8 refl (nothing-lawful 𝓤 H A W .typed t _ is′ .0)) $
-        assigns ! (of-opd ! (load ! (from ! (fld ! refl (stop !))) (look-in ! 36 (sub ! 0 refl (whole !))))) (from ! (stop !)) (init ! 64 refl (LL.lawful E.the-type E′.the-laws 𝓤 H A W .typed (r .ringed) _ (known r is .0) .0)) $
+        assigns ! (of-opd ! (load ! (from ! (fld ! refl (stop !))) (look-in ! 36 (sub ! 2 refl (whole !))))) (from ! (stop !)) (init ! 64 refl (LL.lawful E.the-type E′.the-laws 𝓤 H A W .typed (r .ringed) _ (known r is .1 .1 .0) .0)) $
         -- [the token; what is said of the list; the tokens; what is said of the rest; the locals]
         returns ! (look ! 64 refl) $
         gone ! 64 refl refl $ gone ! 62 refl refl $ gone ! 60 refl refl $ gone ! 58 refl refl $ gone ! 56 refl refl $ gone ! 54 refl refl $ gone ! 52 refl refl $ gone ! 50 refl refl $

@@ -3,13 +3,12 @@ use Prim.Native.Nat.{ℕ, _+_, _-_, _*_, _≤_}
 use native.Mathlib.Omega.{arith}
 use native.Mathlib.Numerals.{add-one}
 use borrow.Author.Needs.{needs}
-use mathlib.Core.Path.{_≡_, refl, ap, _∙_}
+use mathlib.Core.Path.{_≡_, refl, ap, ap₂, _∙_}
 use mathlib.Core.Logic.{⊎-elim}
 use mathlib.Core.Bool.{Bool, true, false, not, _&&_}
 use lib.ListN.{length, getD}
 use Rattle.lists.specs.Lists.{below, bit}
 use Rattle.lists.proofs.Counts.{length-below}
-use Rattle.lists.proofs.Tests.{both-true}
 use Rattle.stars.specs.Groups.{unmarked}
 use Rattle.lists.proofs.Entries.{getD-any}
 use Rattle.cycles.proofs.euler.count_edges.Statement.{statement}
@@ -28,20 +27,20 @@ wide-requires c κs = search needs
 loop-holds : tie.Need-loop-holds Inv-loop μ-loop
 loop-holds c = (omega arith, omega arith, refl)
 
-mul-if1 : tie.Need-mul-if1 Inv-loop μ-loop
-mul-if1 c = omega arith
+mul-active : tie.Need-mul-active Inv-loop μ-loop
+mul-active c = omega arith
 
-shared-slice-read-if1 : tie.Need-shared-slice-read-if1 Inv-loop μ-loop
-shared-slice-read-if1 c = omega arith
+shared-slice-read-active : tie.Need-shared-slice-read-active Inv-loop μ-loop
+shared-slice-read-active c = omega arith
 
-mul-if2 : tie.Need-mul-if2 Inv-loop μ-loop
-mul-if2 c = omega arith
+mul-active-2 : tie.Need-mul-active-2 Inv-loop μ-loop
+mul-active-2 c = omega arith
 
-add-if2 : tie.Need-add-if2 Inv-loop μ-loop
-add-if2 c = omega arith
+add-active : tie.Need-add-active Inv-loop μ-loop
+add-active c = omega arith
 
-shared-slice-read-if2 : tie.Need-shared-slice-read-if2 Inv-loop μ-loop
-shared-slice-read-if2 c = omega arith
+shared-slice-read-active-2 : tie.Need-shared-slice-read-active-2 Inv-loop μ-loop
+shared-slice-read-active-2 c = omega arith
 
 add-count : tie.Need-add-count Inv-loop μ-loop
 add-count c = omega arith
@@ -54,25 +53,18 @@ loop-less c = omega arith
 
 loop-again : tie.Need-loop-again Inv-loop μ-loop
 loop-again c =
-    let s = c .before .before .before .before .before .before in
-    let q = c .before .before .before .loop in
+    let s = c .before .before .before .before .before .before .before in
+    let q = c .before .before .before .before .loop in
     let m = s .args .dir-edges-marked .now in
     let t : ℕ → Bool = λ j. unmarked m (2 * j) && unmarked m (2 * j + 1) in
-    let w : c .before .before .before .before .wide .result ≡ s .args .edges = c .before .before .before .before .wide .ensures in
+    let w : c .before .before .before .before .before .wide .result ≡ s .args .edges = c .before .before .before .before .before .wide .ensures in
     let a : unmarked m (2 * q .k) ≡ not (getD m (2 * q .k) false) = ap not (getD-any m (2 * q .k) true false (omega (arith, s .pre .1))) in
     let b : unmarked m (2 * q .k + 1) ≡ not (getD m (2 * q .k + 1) false) = ap not (getD-any m (2 * q .k + 1) true false (omega (arith, s .pre .1))) in
+    let e : t (q .k) ≡ (not (getD m (2 * q .k) false) && not (getD m (2 * q .k + 1) false)) = ap₂ _&&_ a b in
     let one : length (below t (q .k + 1)) ≡ length (below t (q .k)) + bit (t (q .k)) = ap (λ k. length (below t k)) (add-one (q .k)) ∙ length-below t (q .k) in
     ⊎-elim
-    (λ v.
-    let e : t (q .k) ≡ true = both-true (unmarked m (2 * q .k)) (unmarked m (2 * q .k + 1)) (a ∙ v .0 .taken) (b ∙ v .2 .taken) in
-    (omega arith, omega (arith, v .3), omega (arith, v .3, q .inv .2, one, ap bit e)))
-    (⊎-elim
-    (λ v.
-    let e : t (q .k) ≡ false = rw (a ∙ v .0 .taken, b ∙ v .2 .left) in
-    (omega arith, omega (arith, v .3), omega (arith, v .3, q .inv .2, one, ap bit e)))
-    (λ v.
-    let e : t (q .k) ≡ false = rw (a ∙ v .0 .left) in
-    (omega arith, omega (arith, v .1), omega (arith, v .1, q .inv .2, one, ap bit e))))
+    (λ v. (omega arith, omega (arith, v .1), omega (arith, v .1, q .inv .2, one, ap bit (e ∙ v .0 .taken))))
+    (λ v. (omega arith, omega (arith, v .1), omega (arith, v .1, q .inv .2, one, ap bit (e ∙ v .0 .left))))
     (c .if1 .came)
 
 returns : tie.Need-returns Inv-loop μ-loop
@@ -91,11 +83,11 @@ count-edges-spec =
     μ-loop
     wide-requires
     loop-holds
-    mul-if1
-    shared-slice-read-if1
-    mul-if2
-    add-if2
-    shared-slice-read-if2
+    mul-active
+    shared-slice-read-active
+    mul-active-2
+    add-active
+    shared-slice-read-active-2
     add-count
     add-k
     loop-less

@@ -32,15 +32,15 @@ abbrev FieldAt : tie.Start → List Ring → ℕ → Type 0
 FieldAt s rs bound = Field rs (here s) bound (s .args .rings .now) (s .args .numbers .now) (s .args .count)
 
 -- the ring stands in the lists
-stands : (s : tie.Start) → let p = s .pre .0 in (s .args .ring < length (s .args .ring-first .now)) × (s .args .ring < length (s .args .ring-length .now)) × (s .args .ring < length (s .args .ring-face .now))
+stands : (s : tie.Start) → (s .args .ring < length (s .args .ring-first .now)) × (s .args .ring < length (s .args .ring-length .now))
 stands s =
     let p = s .pre .0 in
     let h = p .2 .map in
-    (omega (arith, p .4, h .inFirst), omega (arith, p .4, h .inSize), omega (arith, p .4, h .inFace))
+    (omega (arith, p .4, h .inFirst), omega (arith, p .4, h .inSize))
 
 -- the start, from where its sides are known
 abbrev sided : tie.After-sides-at → tie.Start
-sided c = c .before .before .before .before .before .before .before .before .before .before .before
+sided c = c .before .before .before .before .before .before .before .before .before .before .before .before
 
 -- its leftmost node is a node
 corner-low : (c : tie.After-sides-at) → (c .sides-at .result .left < length (sided c .args .xs .now)) × (c .sides-at .result .left < length (sided c .args .ys .now))
@@ -55,7 +55,7 @@ wide-requires c κs = tt
 
 sides-at-requires : tie.Need-sides-at-requires
 sides-at-requires c κs =
-    let s = c .before .before .before .before .before .before .before .before .before .before in
+    let s = c .before .before .before .before .before .before .before .before .before .before .before in
     let p = s .pre .0 in
     ring-standing (p .0) (here s) (p .1) (s .args .rings .now) (s .args .numbers .now) (s .args .count) (p .2) (s .args .ring) (p .4)
 
@@ -74,51 +74,38 @@ mul-y c = omega (arith, corner-low (c .before .before) .1, c .before .wide2 .ens
 shared-slice-copy-out-y : tie.Need-shared-slice-copy-out-y
 shared-slice-copy-out-y c = omega (arith, corner-low (c .before .before) .1, c .before .wide2 .ensures)
 
-mul-guess-holder : tie.Need-mul-guess-holder
-mul-guess-holder c = omega (arith, stands (c .before .before .before .before .before .before .before .before .before .before .before .before .before .before) .2, c .before .before .before .before .wide .ensures)
-
-shared-slice-read-guess-holder : tie.Need-shared-slice-read-guess-holder
-shared-slice-read-guess-holder c = omega (arith, stands (c .before .before .before .before .before .before .before .before .before .before .before .before .before .before .before) .2, c .before .before .before .before .before .wide .ensures)
-
-guess-holder-requires : tie.Need-guess-holder-requires
-guess-holder-requires c κs =
-    let s = c .before .before .before .before .before .before .before .before .before .before .before .before .before .before .before in
-    let q = s .pre .1 in
-    let same = ap (λ i. getD (s .args .ring-face .now) i 0) (c .before .before .before .before .before .wide .ensures) in
-    (omega (arith, q .1, same), q .2, q .0, s .pre .0 .2 .candidates .inNumbers)
-
 mul-wide : tie.Need-mul-wide
-mul-wide c = omega (arith, stands (c .before .before .before .before .before .before .before .before .before .before .before .before .before .before .before .before) .0, c .before .before .before .before .before .before .wide .ensures)
+mul-wide c = omega (arith, stands (c .before .before .before .before .before .before .before .before .before .before .before .before .before .before .before) .0, c .before .before .before .before .wide .ensures)
 
 shared-slice-read-wide : tie.Need-shared-slice-read-wide
-shared-slice-read-wide c = omega (arith, stands (c .before .before .before .before .before .before .before .before .before .before .before .before .before .before .before .before .before) .0, c .before .before .before .before .before .before .before .wide .ensures)
+shared-slice-read-wide c = omega (arith, stands (c .before .before .before .before .before .before .before .before .before .before .before .before .before .before .before .before) .0, c .before .before .before .before .before .wide .ensures)
 
 wide-requires-3 : tie.Need-wide-requires-3
 wide-requires-3 c κs = tt
 
 mul-wide-2 : tie.Need-mul-wide-2
-mul-wide-2 c = omega (arith, stands (c .before .before .before .before .before .before .before .before .before .before .before .before .before .before .before .before .before .before) .1, c .before .before .before .before .before .before .before .before .wide .ensures)
+mul-wide-2 c = omega (arith, stands (c .before .before .before .before .before .before .before .before .before .before .before .before .before .before .before .before .before) .1, c .before .before .before .before .before .before .wide .ensures)
 
 shared-slice-read-wide-2 : tie.Need-shared-slice-read-wide-2
-shared-slice-read-wide-2 c = omega (arith, stands (c .before .before .before .before .before .before .before .before .before .before .before .before .before .before .before .before .before .before .before) .1, c .before .before .before .before .before .before .before .before .before .wide .ensures)
+shared-slice-read-wide-2 c = omega (arith, stands (c .before .before .before .before .before .before .before .before .before .before .before .before .before .before .before .before .before .before) .1, c .before .before .before .before .before .before .before .wide .ensures)
 
 wide-requires-4 : tie.Need-wide-requires-4
 wide-requires-4 c κs = tt
 
 -- the start, from where the part is cut out
 abbrev start : tie.After-wide4 → tie.Start
-start c = c .before .before .before .before .before .before .before .before .before .before .before .before .before .before .before .before .before .before .before .before
+start c = c .before .before .before .before .before .before .before .before .before .before .before .before .before .before .before .before .before .before .before
 
 -- the place where its sides are known
 abbrev boxed : tie.After-wide4 → tie.After-sides-at
-boxed c = c .before .before .before .before .before .before .before .before .before
+boxed c = c .before .before .before .before .before .before .before
 
 -- where the part begins and how long it is
 first-is : (c : tie.After-wide4) → c .before .before .wide3 .result ≡ getD (start c .args .ring-first .now) (start c .args .ring) 0
-first-is c = c .before .before .wide3 .ensures ∙ ap (λ k. getD (start c .args .ring-first .now) k 0) (c .before .before .before .before .before .before .before .before .before .before .wide .ensures)
+first-is c = c .before .before .wide3 .ensures ∙ ap (λ k. getD (start c .args .ring-first .now) k 0) (c .before .before .before .before .before .before .before .before .wide .ensures)
 
 size-is : (c : tie.After-wide4) → c .wide4 .result ≡ getD (start c .args .ring-length .now) (start c .args .ring) 0
-size-is c = c .wide4 .ensures ∙ ap (λ k. getD (start c .args .ring-length .now) k 0) (c .before .before .before .before .before .before .before .before .before .before .wide .ensures)
+size-is c = c .wide4 .ensures ∙ ap (λ k. getD (start c .args .ring-length .now) k 0) (c .before .before .before .before .before .before .before .before .wide .ensures)
 
 -- it ends within the list
 ends : (c : tie.After-wide4) → c .before .before .wide3 .result + c .wide4 .result ≤ length (start c .args .nodes .now)
@@ -135,27 +122,27 @@ part-is c =
     ap (λ k. take k (drop f l)) size ∙ ap₂ (λ k g. take k (drop g l)) (size-is c) (first-is c)
 
 -- x and y of its leftmost node
-x-is : (c : tie.After-wide4) → toZ w64 (ofZ w64 (getD (start c .args .xs .now) (c .before .before .before .before .before .before .before .before .wide2 .result) (pos 0))) ≡ getD (start c .args .xs .now) (boxed c .sides-at .result .left) (pos 0)
-x-is c = entry-read (start c .args .xs .now) (c .before .before .before .before .before .before .before .before .wide2 .result) (boxed c .sides-at .result .left) (c .before .before .before .before .before .before .before .x .given) (c .before .before .before .before .before .before .before .before .wide2 .ensures)
+x-is : (c : tie.After-wide4) → toZ w64 (ofZ w64 (getD (start c .args .xs .now) (c .before .before .before .before .before .before .wide2 .result) (pos 0))) ≡ getD (start c .args .xs .now) (boxed c .sides-at .result .left) (pos 0)
+x-is c = entry-read (start c .args .xs .now) (c .before .before .before .before .before .before .wide2 .result) (boxed c .sides-at .result .left) (c .before .before .before .before .before .x .given) (c .before .before .before .before .before .before .wide2 .ensures)
 
-y-is : (c : tie.After-wide4) → toZ w64 (ofZ w64 (getD (start c .args .ys .now) (c .before .before .before .before .before .before .before .before .wide2 .result) (pos 0))) ≡ getD (start c .args .ys .now) (boxed c .sides-at .result .left) (pos 0)
-y-is c = entry-read (start c .args .ys .now) (c .before .before .before .before .before .before .before .before .wide2 .result) (boxed c .sides-at .result .left) (c .before .before .before .before .before .before .y .given) (c .before .before .before .before .before .before .before .before .wide2 .ensures)
+y-is : (c : tie.After-wide4) → toZ w64 (ofZ w64 (getD (start c .args .ys .now) (c .before .before .before .before .before .before .wide2 .result) (pos 0))) ≡ getD (start c .args .ys .now) (boxed c .sides-at .result .left) (pos 0)
+y-is c = entry-read (start c .args .ys .now) (c .before .before .before .before .before .before .wide2 .result) (boxed c .sides-at .result .left) (c .before .before .before .before .y .given) (c .before .before .before .before .before .before .wide2 .ensures)
 
 -- so the search is asked for its holder
 opens : (c : tie.After-wide4) (rs : List Ring) (bound : ℕ) → FieldAt (start c) rs bound → start c .args .ring < length rs
     → let f = c .before .before .wide3 .result in let n = c .wide4 .result in
     Opening (ringAt rs (start c .args .ring)) (here (start c)) bound (take (f + n - f) (drop f (start c .args .nodes .now)))
-    (toZ w64 (ofZ w64 (getD (start c .args .xs .now) (c .before .before .before .before .before .before .before .before .wide2 .result) (pos 0)))) (toZ w64 (ofZ w64 (getD (start c .args .ys .now) (c .before .before .before .before .before .before .before .before .wide2 .result) (pos 0))))
+    (toZ w64 (ofZ w64 (getD (start c .args .xs .now) (c .before .before .before .before .before .before .wide2 .result) (pos 0)))) (toZ w64 (ofZ w64 (getD (start c .args .ys .now) (c .before .before .before .before .before .before .wide2 .result) (pos 0))))
 opens c rs bound field low =
     let s = start c in
     opening-of rs (here s) bound (s .args .rings .now) (s .args .numbers .now) (s .args .count) field (s .args .ring) low (boxed c .sides-at .result) (boxed c .sides-at .ensures)
     _ _ _ (part-is c) (x-is c) (y-is c)
 
 add-end : tie.Need-add-end
-add-end c = omega (arith, first-is c, size-is c, c .before .before .before .before .before .before .before .before .before .before .before .before .before .before .before .shared-slice-known5 .given (start c .args .ring), c .before .before .before .before .before .before .before .before .before .before .before .before .before .before .shared-slice-known6 .given (start c .args .ring))
+add-end c = omega (arith, first-is c, size-is c, c .before .before .before .before .before .before .before .before .before .before .before .before .before .shared-slice-known6 .given (start c .args .ring), c .before .before .before .before .before .before .before .before .before .before .before .before .shared-slice-known7 .given (start c .args .ring))
 
 mul-best-holder : tie.Need-mul-best-holder
-mul-best-holder c = omega (arith, first-is c, c .before .before .before .before .before .before .before .before .before .before .before .before .before .before .before .shared-slice-known5 .given (start c .args .ring))
+mul-best-holder c = omega (arith, first-is c, c .before .before .before .before .before .before .before .before .before .before .before .before .before .shared-slice-known6 .given (start c .args .ring))
 
 sub-best-holder : tie.Need-sub-best-holder
 sub-best-holder c = search needs
@@ -171,10 +158,10 @@ best-holder-requires c κs =
     let w = c .before .before in
     let s = start w in
     let p = s .pre .0 in
-    (p .0, p .1, ringAt (p .0) (s .args .ring), p .2, opens w (p .0) (p .1) (p .2) (p .4), p .3)
+    ((p .0, p .1, ringAt (p .0) (s .args .ring), p .2, opens w (p .0) (p .1) (p .2) (p .4), p .3), s .pre .1)
 
 same-length : tie.Need-same-length
-same-length c = c .before .before .before .best-holder .kept .1 .1 .1 .1 .1 .1 .1 .1 .1 .1 .1 .1 .1 .1 .1 .0
+same-length c = c .before .before .before .best-holder .kept .1 .1 .1 .1 .1 .1 .1 .1 .1 .1 .1 .1 .1 .1 .1 .1 .1 .0
 
 -- the best of all is the holder
 holder-is : (c : tie.After-best-holder) (rs : List Ring) (bound : ℕ) → let s = start (c .before .before .before) in
@@ -183,7 +170,7 @@ holder-is : (c : tie.After-best-holder) (rs : List Ring) (bound : ℕ) → let s
 holder-is c rs bound field low =
     let w = c .before .before .before in
     let s = start w in
-    sym (best-is rs (here s) bound (s .args .rings .now) (s .args .numbers .now) (s .args .count) field (ringAt rs (s .args .ring)) (c .best-holder .result)
+    sym (best-is rs (here s) bound (s .args .rings .now) (s .args .numbers .now) (s .args .count) field (s .args .order .now) (s .pre .1 .0) (ringAt rs (s .args .ring)) (c .best-holder .result)
     (c .best-holder .ensures .0 rs bound (ringAt rs (s .args .ring)) field (opens w rs bound field low)))
 
 returns : tie.Need-returns
@@ -211,7 +198,7 @@ shared-slice-read-result : tie.Need-shared-slice-read-result
 shared-slice-read-result c = low-best (c .before .before .before .before) (c .before .if1 .left) .0
 
 same-length-2 : tie.Need-same-length-2
-same-length-2 c = c .before .before .before .before .best-holder .kept .1 .1 .1 .1 .1 .1 .1 .1 .1 .1 .1 .1 .1 .1 .1 .0
+same-length-2 c = c .before .before .before .before .best-holder .kept .1 .1 .1 .1 .1 .1 .1 .1 .1 .1 .1 .1 .1 .1 .1 .1 .1 .0
 
 returns-2 : tie.Need-returns-2
 returns-2 c =
@@ -232,9 +219,6 @@ holder-of-spec =
     shared-slice-copy-out-x
     mul-y
     shared-slice-copy-out-y
-    mul-guess-holder
-    shared-slice-read-guess-holder
-    guess-holder-requires
     mul-wide
     shared-slice-read-wide
     wide-requires-3

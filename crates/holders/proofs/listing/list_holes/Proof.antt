@@ -19,27 +19,27 @@ use Rattle.holders.proofs.listing.list_holes.Statement.{statement}
 use Rattle.holders.proofs.listing.list_holes.Tie as tie
 
 abbrev Inv-loop : tie.InvT-loop
-Inv-loop ring-count ring-side ring-area count rings numbers by-face half-edges nodes ring-first ring-length ring-face dir-edges-src xs ys list₀ stamps₀ k₀ i₀ list stamps k i =
+Inv-loop ring-count ring-side ring-area count rings numbers order least reaches half-edges nodes ring-first ring-length ring-face dir-edges-src xs ys list₀ stamps₀ k₀ i₀ list stamps k i =
     Gone (mapOf dir-edges-src xs ys half-edges nodes ring-first ring-length ring-face) rings numbers count ring-side ring-area ring-count i list stamps k
 
 abbrev μ-loop : tie.MeasureT-loop
-μ-loop ring-count ring-side ring-area count rings numbers by-face half-edges nodes ring-first ring-length ring-face dir-edges-src xs ys list₀ stamps₀ k₀ i₀ list stamps k i =
+μ-loop ring-count ring-side ring-area count rings numbers order least reaches half-edges nodes ring-first ring-length ring-face dir-edges-src xs ys list₀ stamps₀ k₀ i₀ list stamps k i =
     ring-count - i
 
 -- the function's start, from the loop
 abbrev start : tie.At-loop Inv-loop μ-loop → tie.Start Inv-loop μ-loop
-start l = l .before .before .before .before .before .before .before .before .before .before .before .before
+start l = l .before .before .before .before .before .before .before .before .before .before .before .before .before
 
 -- the loop, from a turn
-abbrev here : tie.After-shared-slice-known11 Inv-loop μ-loop → tie.At-loop Inv-loop μ-loop
+abbrev here : tie.After-shared-slice-known12 Inv-loop μ-loop → tie.At-loop Inv-loop μ-loop
 here k = k .before .before .before
 
 -- an open ring's turn, from its holder
-abbrev turn : tie.After-shared-slice-known12 Inv-loop μ-loop → tie.Then1 Inv-loop μ-loop
-turn c = c .before .before .before .before .before
+abbrev turn : tie.After-shared-slice-known13 Inv-loop μ-loop → tie.Then1 Inv-loop μ-loop
+turn c = c .before .before .before .before
 
 -- there is one more ring
-more : (k : tie.After-shared-slice-known11 Inv-loop μ-loop) → here k .loop .i < start (here k) .args .ring-count
+more : (k : tie.After-shared-slice-known12 Inv-loop μ-loop) → here k .loop .i < start (here k) .args .ring-count
 more k = k .before .before .loop-test .taken
 
 no-holes-requires : tie.Need-no-holes-requires Inv-loop μ-loop
@@ -55,35 +55,30 @@ shared-slice-read-if1 : tie.Need-shared-slice-read-if1 Inv-loop μ-loop
 shared-slice-read-if1 c = omega (arith, c .before .wide .ensures, more c, start (here c) .pre .0 .3 .inSide)
 
 -- what is listed so far of the rings of the contract
-listed : (k : tie.After-shared-slice-known11 Inv-loop μ-loop) → let a = start (here k) .args in let g = start (here k) .pre .0 in let q = here k .loop in
+listed : (k : tie.After-shared-slice-known12 Inv-loop μ-loop) → let a = start (here k) .args in let g = start (here k) .pre .0 in let q = here k .loop in
     Listed (g .0) (mapOf (a .dir-edges-src .now) (a .xs .now) (a .ys .now) (a .half-edges .now) (a .nodes .now) (a .ring-first .now) (a .ring-length .now) (a .ring-face .now)) (g .1) (q .i) (q .list) (q .stamps) (q .k)
 listed k = let g = start (here k) .pre .0 in here k .loop .inv .listed (g .0) (g .1) (g .2) (g .3) (g .4)
 
 -- the side that is tested is that of ring i
-tested : (k : tie.After-shared-slice-known11 Inv-loop μ-loop) → let l = start (here k) .args .ring-side .now in getD l (here k .loop .i) 0 ≡ getD l (k .before .wide .result) 0
+tested : (k : tie.After-shared-slice-known12 Inv-loop μ-loop) → let l = start (here k) .args .ring-side .now in getD l (here k .loop .i) 0 ≡ getD l (k .before .wide .result) 0
 tested k = ap (λ n. getD (start (here k) .args .ring-side .now) n 0) (sym (k .before .wide .ensures))
 
 -- and so is the area
-halved : (k : tie.After-shared-slice-known11 Inv-loop μ-loop) → let l = start (here k) .args .ring-area .now in (z : ℤ) → HalfOf (getD l (here k .loop .i) nan) z → HalfOf (getD l (k .before .wide .result) nan) z
+halved : (k : tie.After-shared-slice-known12 Inv-loop μ-loop) → let l = start (here k) .args .ring-area .now in (z : ℤ) → HalfOf (getD l (here k .loop .i) nan) z → HalfOf (getD l (k .before .wide .result) nan) z
 halved k z = subst (λ n. HalfOf (getD (start (here k) .args .ring-area .now) n nan) z) (sym (k .before .wide .ensures))
 
 -- there is room for an open ring's record
 room : (f : tie.Then1 Inv-loop μ-loop) → here (f .before) .loop .k < limits .edges
 room f = let k = f .before in listed-room (start (here k) .pre .0 .3) (listed k) (more k) (eq-eqb _ 2 (tested k ∙ f .if1 .taken))
 
-wide-requires-2 : tie.Need-wide-requires-2 Inv-loop μ-loop
-wide-requires-2 c κs = tt
-
 slice-aggregate-holder-of : tie.Need-slice-aggregate-holder-of Inv-loop μ-loop
-slice-aggregate-holder-of c = sym (here (c .before .before .before) .loop .inv .sameStamps)
+slice-aggregate-holder-of c = sym (here (c .before .before) .loop .inv .sameStamps)
 
 holder-of-requires : tie.Need-holder-of-requires Inv-loop μ-loop
 holder-of-requires c κs =
-    let k = c .before .before .before in
-    let i = here k .loop .i in
+    let k = c .before .before in
     let p = start (here k) .pre in
-    let faces = c .before .wide2 .ensures in
-    ((p .0 .0, p .0 .1, p .0 .2, listed k .stamped, omega (arith, more k, p .0 .3 .counted)), (p .1 .0, omega (arith, faces, p .1 .1 i (more k)), omega (arith, faces, p .1 .2)))
+    ((p .0 .0, p .0 .1, p .0 .2, listed k .stamped, omega (arith, more k, p .0 .3 .counted)), p .1)
 
 mul-doubled-area : tie.Need-mul-doubled-area Inv-loop μ-loop
 mul-doubled-area c = omega arith
@@ -121,13 +116,13 @@ loop-again c =
     let q = here k .loop in
     ⊎-elim
     (λ w.
-    let after = w .3 .last .1 .1 .1 .1 .1 .1 .1 .1 .1 .1 .1 .1 .1 .1 .0 in
+    let after = w .2 .last .1 .1 .1 .1 .1 .1 .1 .1 .1 .1 .1 .1 .1 .1 .1 .0 in
     let same : length after ≡ length (q .stamps) = omega arith in
-    let doubled = toZ w64 (ofZ w64 (w .6 .result)) in
-    let exact : doubled ≡ w .6 .result = toZ-ofZ w64 (w .6 .result) (record { sfits = w .6 .ok }) in
-    let put : c .if1 .list ≡ set (q .list) (q .k) (record { ring = q .i; holder = w .3 .result; doubled = doubled }) = w .7 in
-    rw (put, w .8, w .9)
-    (gone-one (more k) (q .inv) (eq-eqb _ 2 (tested k ∙ w .0 .taken)) (w .3 .result) doubled after same (w .3 .ensures .0) (λ z h. exact ∙ w .6 .ensures z (halved k z h)) (w .3 .ensures .1)))
+    let doubled = toZ w64 (ofZ w64 (w .5 .result)) in
+    let exact : doubled ≡ w .5 .result = toZ-ofZ w64 (w .5 .result) (record { sfits = w .5 .ok }) in
+    let put : c .if1 .list ≡ set (q .list) (q .k) (record { ring = q .i; holder = w .2 .result; doubled = doubled }) = w .6 in
+    rw (put, w .7, w .8)
+    (gone-one (more k) (q .inv) (eq-eqb _ 2 (tested k ∙ w .0 .taken)) (w .2 .result) doubled after same (w .2 .ensures .0) (λ z h. exact ∙ w .5 .ensures z (halved k z h)) (w .2 .ensures .1)))
     (λ w. rw (w .1, w .2, w .3) (gone-other (more k) (q .inv) (ne-eqb _ 2 (λ e. w .0 .left (sym (tested k) ∙ e)))))
     (c .if1 .came)
 
@@ -149,7 +144,6 @@ list-holes-spec =
     loop-holds
     wide-requires
     shared-slice-read-if1
-    wide-requires-2
     slice-aggregate-holder-of
     holder-of-requires
     mul-doubled-area

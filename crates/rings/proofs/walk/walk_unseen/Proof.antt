@@ -4,9 +4,11 @@ use native.Mathlib.Omega.{arith}
 use borrow.Author.Needs.{needs}
 use mathlib.Core.Path.{_≡_, refl, sym, ap, _∙_}
 use mathlib.Core.Logic.{⊎-elim}
-use mathlib.Core.Bool.{true, false}
+use mathlib.Core.Bool.{Bool, true, false, not, _&&_}
 use lib.ListN.{length, getD}
-use borrow.Author.Tests.{not-true, not-false}
+use borrow.Author.Tests.{not-true}
+use Rattle.lists.proofs.Counts.{by-test, true-is-false}
+use Rattle.lists.proofs.Tests.{both}
 use Rattle.rules.specs.Cycles.{cycle}
 use Rattle.stars.specs.Groups.{unmarked}
 use Rattle.splitting.specs.Splits.{entryOf}
@@ -30,11 +32,11 @@ abbrev entry : tie.At-loop Inv-loop μ-loop → tie.Start Inv-loop μ-loop
 entry c = c .before .before .before .before .before .before .before .before .before .before .before .before .before
 
 -- the turn, from where its half-edge begins a ring
-abbrev turn : tie.Then2 Inv-loop μ-loop → tie.At-loop Inv-loop μ-loop
-turn c = c .before .before .before .before .before .before
+abbrev turn : tie.Then1 Inv-loop μ-loop → tie.At-loop Inv-loop μ-loop
+turn c = c .before .before .before .before .before
 
 -- that place, from where the ring is walked
-abbrev begun : tie.After-walk-ring Inv-loop μ-loop → tie.Then2 Inv-loop μ-loop
+abbrev begun : tie.After-walk-ring Inv-loop μ-loop → tie.Then1 Inv-loop μ-loop
 begun c = c .before .before .before .before
 
 -- the four lists as they are lent
@@ -45,22 +47,32 @@ lent s = rowsOf (s .args .ring-first .now) (s .args .ring-length .now) (s .args 
 abbrev rows : tie.At-loop Inv-loop μ-loop → RingRows
 rows c = let q = c .loop in rowsOf (q .ring-first) (q .ring-length) (q .ring-side) (q .ring-area)
 
+-- one that is active and not to be walked was seen
+seen-then : (active seen : Bool) → active ≡ true → (active && not seen) ≡ false → seen ≡ true
+seen-then true true a e = refl
+seen-then true false a e = sym e
+seen-then false seen a e = absurd (true-is-false (sym a))
+
 -- ---- a half-edge that is active and was not seen
 
 -- it is one of the graph's
-below : (c : tie.Then2 Inv-loop μ-loop) → turn c .loop .k < 2 * entry (turn c) .args .edges
-below c = c .before .before .before .before .before .loop-test .taken
+below : (c : tie.Then1 Inv-loop μ-loop) → turn c .loop .k < 2 * entry (turn c) .args .edges
+below c = c .before .before .before .before .loop-test .taken
+
+-- both tests
+tests : (c : tie.Then1 Inv-loop μ-loop) → (c .before .before .before .is-active .result ≡ true) × (not (getD (turn c .loop .seen) (c .before .before .wide .result) false) ≡ true)
+tests c = both (c .before .before .before .is-active .result) (not (getD (turn c .loop .seen) (c .before .before .wide .result) false)) (c .if1 .taken)
 
 -- it is active
-live : (c : tie.Then2 Inv-loop μ-loop) → unmarked (entry (turn c) .args .dir-edges-marked .now) (turn c .loop .k) ≡ true
-live c = sym (c .before .before .before .before .is-active .ensures) ∙ c .before .before .before .if1 .taken
+live : (c : tie.Then1 Inv-loop μ-loop) → unmarked (entry (turn c) .args .dir-edges-marked .now) (turn c .loop .k) ≡ true
+live c = sym (c .before .before .before .is-active .ensures) ∙ tests c .0
 
 -- it was not seen
-fresh : (c : tie.Then2 Inv-loop μ-loop) → getD (turn c .loop .seen) (turn c .loop .k) false ≡ false
-fresh c = ap (λ i. getD (turn c .loop .seen) i false) (sym (c .before .before .wide .ensures)) ∙ not-true _ (c .if2 .taken)
+fresh : (c : tie.Then1 Inv-loop μ-loop) → getD (turn c .loop .seen) (turn c .loop .k) false ≡ false
+fresh c = ap (λ i. getD (turn c .loop .seen) i false) (sym (c .before .before .wide .ensures)) ∙ not-true _ (tests c .1)
 
 -- so there is room for its ring
-room : (c : tie.Then2 Inv-loop μ-loop) → let a = entry (turn c) .args in turn c .loop .at + length (cycle (entryOf (a .next .now)) (2 * a .edges) (turn c .loop .k)) ≤ 2 * a .edges
+room : (c : tie.Then1 Inv-loop μ-loop) → let a = entry (turn c) .args in turn c .loop .at + length (cycle (entryOf (a .next .now)) (2 * a .edges) (turn c .loop .k)) ≤ 2 * a .edges
 room c =
     let s = entry (turn c) in
     let q = turn c .loop in
@@ -92,14 +104,14 @@ is-active-requires c κs = omega (arith, entry (c .before) .pre .0 .inMarks)
 wide-requires : tie.Need-wide-requires Inv-loop μ-loop
 wide-requires c κs = search needs
 
-slice-read-if2 : tie.Need-slice-read-if2 Inv-loop μ-loop
-slice-read-if2 c =
-    let k : tie.At-loop Inv-loop μ-loop = c .before .before .before .before .before in
-    omega (arith, c .before .wide .ensures, c .before .before .before .before .loop-test .taken, k .loop .inv .0, entry k .pre .1 .0)
+slice-read-fresh : tie.Need-slice-read-fresh Inv-loop μ-loop
+slice-read-fresh c =
+    let k : tie.At-loop Inv-loop μ-loop = c .before .before .before .before in
+    omega (arith, c .before .wide .ensures, c .before .before .before .loop-test .taken, k .loop .inv .0, entry k .pre .1 .0)
 
 walk-ring-requires : tie.Need-walk-ring-requires Inv-loop μ-loop
 walk-ring-requires c κs =
-    let d : tie.Then2 Inv-loop μ-loop = c .before .before .before in
+    let d : tie.Then1 Inv-loop μ-loop = c .before .before .before in
     let s = entry (turn d) in
     let q = turn d .loop in
     let k = s .pre .0 in
@@ -143,14 +155,14 @@ add-at c =
     omega (arith, ap (λ t. t .count) (w .tallied), room d, s .pre .0 .few)
 
 add-k : tie.Need-add-k Inv-loop μ-loop
-add-k c = omega (arith, c .before .before .loop-test .taken, entry (c .before .before .before) .pre .0 .few)
+add-k c = omega (arith, c .before .before .before .before .loop-test .taken, entry (c .before .before .before .before .before) .pre .0 .few)
 
 loop-less : tie.Need-loop-less Inv-loop μ-loop
-loop-less c = omega (arith, c .before .before .loop-test .taken)
+loop-less c = omega (arith, c .before .before .before .before .loop-test .taken)
 
 loop-again : tie.Need-loop-again Inv-loop μ-loop
 loop-again c =
-    let now : tie.At-loop Inv-loop μ-loop = c .before .before .before in
+    let now : tie.At-loop Inv-loop μ-loop = c .before .before .before .before .before in
     let s = entry now in
     let q = now .loop in
     let k = s .pre .0 in
@@ -160,47 +172,45 @@ loop-again c =
     let m = s .args .dir-edges-marked .now in
     let xs = s .args .nodes-x .now in
     let ys = s .args .nodes-y .now in
-    let l : q .k < 2 * e = c .before .before .loop-test .taken in
+    let l : q .k < 2 * e = c .before .before .before .before .loop-test .taken in
+    let test = sym (c .before .before .before .is-active .ensures) in
+    let place : getD (q .seen) (q .k) false ≡ getD (q .seen) (c .before .before .wide .result) false = ap (λ i. getD (q .seen) i false) (sym (c .before .before .wide .ensures)) in
     let z = c .if1 in
     let after = rowsOf (z .ring-first) (z .ring-length) (z .ring-side) (z .ring-area) in
     let turned : Held e (s .args .next .now) src m xs ys (s .args .seen .now) (s .args .half-edges .now) (s .args .keys .now) (lent s) (z .seen) (z .half-edges) (z .keys) after (z .count) (z .at) (q .k + 1)
     × ((length (z .seen) ≡ length (q .seen)) × (length (z .half-edges) ≡ length (q .half-edges)) × (length (z .keys) ≡ length (q .keys)) × (length (z .ring-first) ≡ length (q .ring-first))
     × (length (z .ring-length) ≡ length (q .ring-length)) × (length (z .ring-side) ≡ length (q .ring-side)) × (length (z .ring-area) ≡ length (q .ring-area))) = ⊎-elim
     (λ v.
-    let a : unmarked m (q .k) ≡ true = sym (c .before .is-active .ensures) ∙ v .0 .taken in
-    let x : getD (q .seen) (q .k) false ≡ false = ap (λ i. getD (q .seen) i false) (sym (v .1 .ensures)) ∙ not-true _ (v .3 .taken) in
-    let w : WalkedRing f (2 * e) (q .k) (q .at) src xs ys (q .seen) (q .half-edges) (q .keys) (z .seen) (z .half-edges) (z .keys) (v .7 .result) =
-    walked-same f (2 * e) (q .k) (q .at) src xs ys (q .seen) (q .half-edges) (q .keys) _ (z .seen) _ (z .half-edges) _ (z .keys) _ (v .7 .result) (v .28) (v .29) (v .30) refl
-    (v .7 .ensures (2 * e) (unmarked m) (k .permutes) (l, a)) in
-    let p : after ≡ rowPut (q .count) (q .at) (v .7 .result) (rows now) = (λ i. rowsOf (v .31 i) (v .32 i) (v .33 i) (v .34 i)) ∙ v .18 .ensures in (
+    let b = both (c .before .before .before .is-active .result) (not (getD (q .seen) (c .before .before .wide .result) false)) (v .0 .taken) in
+    let a : unmarked m (q .k) ≡ true = test ∙ b .0 in
+    let x : getD (q .seen) (q .k) false ≡ false = place ∙ not-true _ (b .1) in
+    let w : WalkedRing f (2 * e) (q .k) (q .at) src xs ys (q .seen) (q .half-edges) (q .keys) (z .seen) (z .half-edges) (z .keys) (v .4 .result) =
+    walked-same f (2 * e) (q .k) (q .at) src xs ys (q .seen) (q .half-edges) (q .keys) _ (z .seen) _ (z .half-edges) _ (z .keys) _ (v .4 .result) (v .25) (v .26) (v .27) refl
+    (v .4 .ensures (2 * e) (unmarked m) (k .permutes) (l, a)) in
+    let p : after ≡ rowPut (q .count) (q .at) (v .4 .result) (rows now) = (λ i. rowsOf (v .28 i) (v .29 i) (v .30 i) (v .31 i)) ∙ v .15 .ensures in (
       held-new (s .args .edges) (s .args .next .now) (s .args .dir-edges-src .now) (s .args .dir-edges-marked .now) (s .args .nodes-x .now) (s .args .nodes-y .now) (s .args .seen .now) (s .args .half-edges .now) (s .args .keys .now) (lent s)
           (k .permutes) (q .seen) (q .half-edges) (q .keys) (rows now) (q .count) (q .at) (q .k) l (q .inv .9) a x (k .inHalfEdges) (k .inRows)
-          (z .seen) (z .half-edges) (z .keys) after (v .7 .result) (z .count) (z .at) w p (v .35) (v .36),
+          (z .seen) (z .half-edges) (z .keys) after (v .4 .result) (z .count) (z .at) w p (v .32) (v .33),
       (
-        ap length (v .28) ∙ v .7 .kept .1 .1 .1 .1 .1 .0,
-        ap length (v .29) ∙ v .7 .kept .1 .1 .1 .1 .1 .1 .0,
-        ap length (v .30) ∙ v .7 .kept .1 .1 .1 .1 .1 .1 .1 .0,
-        ap length (v .31) ∙ v .18 .kept .1 .1 .1 .0,
-        ap length (v .32) ∙ v .18 .kept .1 .1 .1 .1 .0,
-        ap length (v .33) ∙ v .18 .kept .1 .1 .1 .1 .1 .0,
-        ap length (v .34) ∙ v .18 .kept .1 .1 .1 .1 .1 .1 .0,
+        ap length (v .25) ∙ v .4 .kept .1 .1 .1 .1 .1 .0,
+        ap length (v .26) ∙ v .4 .kept .1 .1 .1 .1 .1 .1 .0,
+        ap length (v .27) ∙ v .4 .kept .1 .1 .1 .1 .1 .1 .1 .0,
+        ap length (v .28) ∙ v .15 .kept .1 .1 .1 .0,
+        ap length (v .29) ∙ v .15 .kept .1 .1 .1 .1 .0,
+        ap length (v .30) ∙ v .15 .kept .1 .1 .1 .1 .1 .0,
+        ap length (v .31) ∙ v .15 .kept .1 .1 .1 .1 .1 .1 .0,
       ),
     ))
-    (⊎-elim
-    (λ v.
-    let a : unmarked m (q .k) ≡ true = sym (c .before .is-active .ensures) ∙ v .0 .taken in
-    let x : getD (q .seen) (q .k) false ≡ true = ap (λ i. getD (q .seen) i false) (sym (v .1 .ensures)) ∙ not-false _ (v .3 .left) in (
-      held-has (s .args .edges) (s .args .next .now) (s .args .dir-edges-src .now) (s .args .dir-edges-marked .now) (s .args .nodes-x .now) (s .args .nodes-y .now) (s .args .seen .now) (s .args .half-edges .now) (s .args .keys .now) (lent s) (k .permutes)
-          (q .seen) (q .half-edges) (q .keys) (rows now) (q .count) (q .at) (q .k) l (q .inv .9) (z .seen) (z .half-edges) (z .keys) after (z .count) (z .at) a x
-          (v .4) (v .5) (v .6) (λ i. rowsOf (v .7 i) (v .8 i) (v .9 i) (v .10 i)) (v .11) (v .12),
-      (ap length (v .4), ap length (v .5), ap length (v .6), ap length (v .7), ap length (v .8), ap length (v .9), ap length (v .10)),
-    ))
     (λ v. (
-      held-marked (s .args .edges) (s .args .next .now) (s .args .dir-edges-src .now) (s .args .dir-edges-marked .now) (s .args .nodes-x .now) (s .args .nodes-y .now) (s .args .seen .now) (s .args .half-edges .now) (s .args .keys .now) (lent s) (k .permutes)
+      by-test (unmarked m (q .k))
+          (λ a. held-has (s .args .edges) (s .args .next .now) (s .args .dir-edges-src .now) (s .args .dir-edges-marked .now) (s .args .nodes-x .now) (s .args .nodes-y .now) (s .args .seen .now) (s .args .half-edges .now) (s .args .keys .now) (lent s) (k .permutes)
+          (q .seen) (q .half-edges) (q .keys) (rows now) (q .count) (q .at) (q .k) l (q .inv .9) (z .seen) (z .half-edges) (z .keys) after (z .count) (z .at) a (place ∙ seen-then (c .before .before .before .is-active .result) _ (sym test ∙ a) (v .0 .left))
+          (v .1) (v .2) (v .3) (λ i. rowsOf (v .4 i) (v .5 i) (v .6 i) (v .7 i)) (v .8) (v .9))
+          (λ a. held-marked (s .args .edges) (s .args .next .now) (s .args .dir-edges-src .now) (s .args .dir-edges-marked .now) (s .args .nodes-x .now) (s .args .nodes-y .now) (s .args .seen .now) (s .args .half-edges .now) (s .args .keys .now) (lent s) (k .permutes)
           (q .seen) (q .half-edges) (q .keys) (rows now) (q .count) (q .at) (q .k) l (q .inv .9) (z .seen) (z .half-edges) (z .keys) after (z .count) (z .at)
-          (sym (c .before .is-active .ensures) ∙ v .0 .left) (v .1) (v .2) (v .3) (λ i. rowsOf (v .4 i) (v .5 i) (v .6 i) (v .7 i)) (v .8) (v .9),
+          a (v .1) (v .2) (v .3) (λ i. rowsOf (v .4 i) (v .5 i) (v .6 i) (v .7 i)) (v .8) (v .9)),
       (ap length (v .1), ap length (v .2), ap length (v .3), ap length (v .4), ap length (v .5), ap length (v .6), ap length (v .7)),
-    )))
+    ))
     (z .came) in (
       turned .1 .0 ∙ q .inv .0,
       turned .1 .1 ∙ q .inv .1,
@@ -257,7 +267,7 @@ walk-unseen-spec =
     mul-loop
     is-active-requires
     wide-requires
-    slice-read-if2
+    slice-read-fresh
     walk-ring-requires
     write-row-requires
     add-count

@@ -109,7 +109,7 @@ returns-2 c =
     let makes = r .extract-core .ensures in
     let out = r .extract-core .last .1 .1 .1 .1 .1 .1 .1 in
     let row = read .read-marks .result in
-    let t : Told = record { number = c .answer-rings .result; list = made .list; count = made .count } in
+    let t : Told = record { list = made .list; count = made .count; number = c .answer-rings .result } in
     let s′ = lent (c .answer-rings .last .0) (s .floats) (s .numbers) (s .stars) (s .bytes) (s .ids) (listsOf (out .0) (out .1 .0) (out .1 .1 .0) (out .1 .1 .1 .0) (out .1 .1 .1 .1 .0) (out .1 .1 .1 .1 .1 .0)) (c .answer-rings .last .1 .0) in
     record {
       done = λ old long.
