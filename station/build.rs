@@ -1,11 +1,12 @@
-//! Finds the static library's five archives beside this crate.
+//! Finds the static library's six archives beside this crate.
 
 use std::path::Path;
 
 /// The archives, by what their entries are for.
-const ARCHIVES: [&str; 5] = [
+const ARCHIVES: [&str; 6] = [
     "station_building",
     "station_files",
+    "station_ring_files",
     "station_steps",
     "station_rings",
     "station_questions",

@@ -2,10 +2,10 @@
 //! many were taken, what ended it, the counts and the stage, and every entry of every table.
 
 use crate::{answer_file, filled, Packed};
-use oracle::listing;
 use oracle::original::Line3D;
 use oracle::state::{Call, Lent, Reply, Side, State};
 use oracle::Oracle;
+use oracle::{listing, records};
 use tukmiheb::entries::FILE_LENGTH;
 
 /// How many records were taken and the number of what ended it, or the refusal of the call.
@@ -27,10 +27,12 @@ fn add_lines(oracle: &mut Oracle, bytes: &[u8], lent: &Lent) -> Answer {
         return Err(number);
     }
     let mut taken = 0;
-    for line in listing::records(bytes) {
-        let refused = match line.map(|line| oracle.call(&Call::Add(line), lent)) {
+    for line in listing::segments(bytes) {
+        let reply = line.map(|line| Some(oracle.call(&Call::Add(line?), lent)));
+        let refused = match reply {
             Err(refusal) => refusal.number(),
-            Ok(Reply::Refused(number)) => number,
+            Ok(Some(Reply::Refused(number))) => number,
+            // added, or passed over
             Ok(_) => {
                 taken += 1;
                 continue;
@@ -65,6 +67,6 @@ pub fn empty() -> State {
 pub fn records(lines: impl IntoIterator<Item = Line3D>) -> Vec<u8> {
     lines
         .into_iter()
-        .flat_map(|line| listing::record(&line))
+        .flat_map(|line| records::segment(&line))
         .collect()
 }

@@ -4,6 +4,7 @@ use comparison::files::{compare, empty, records};
 use comparison::inputs::{self, Segment, BOUND, STEPS};
 use comparison::random::Random;
 use oracle::original::Line3D;
+use oracle::records::record;
 use oracle::state::{Lent, Side, TABLES};
 use oracle::Oracle;
 
@@ -81,12 +82,66 @@ fn bad_records() {
         assert_eq!(stopped(few, &file(&[[[7, 7], [7, 7]]])), 2);
         assert_eq!(stopped(few, &good[..57]), 9);
         assert_eq!(stopped(few, &good[..1]), 9);
-        for (place, value, number) in [(0, 53, 10), (3, 1, 10), (4, 2, 11), (5, 1, 11)] {
+        for (place, value, number) in [(0, 53, 10), (3, 1, 9), (4, 16, 11), (5, 1, 11)] {
             let mut bad = good.clone();
             bad[place] = value;
             assert_eq!(stopped(few, &bad), number);
             assert_eq!(stopped(few, &[bad, good.clone()].concat()), number);
         }
+        // A length of 55: its bytes are there, or they are not.
+        let mut long = good.clone();
+        long[0] = 55;
+        assert_eq!(stopped(few, &long), 9);
+        assert_eq!(stopped(few, &[long, vec![0]].concat()), 10);
+    }
+}
+
+/// A record that a segment reader passes over.
+fn passed_over(random: &mut Random) -> Vec<u8> {
+    let body: Vec<u8> = (0..random.below(90)).map(|_| random.bits() as u8).collect();
+    match random.below(3) {
+        // A ring, of which 15 is not tested.
+        0 => record(2, &[&[0; 12], &body[..]].concat()),
+        _ => record(3 + random.below(13) as u16, &body),
+    }
+}
+
+/// Records passed over stand between the segments: they are counted, and change nothing.
+#[test]
+fn mixed_files() {
+    let mut random = Random::new(14);
+    let map = inputs::grid(4, 3, 1);
+    let segments = file(&map);
+    let segments = segments.chunks(58);
+    let (_, plain) = compare(&empty(), &file(&map), &Lent::FULL);
+    for kind in 2..16 {
+        let body = [kind as u8; 20];
+        let other = record(kind, &body);
+        let mixed = segments
+            .clone()
+            .flat_map(|segment| [segment, &other].concat());
+        let mixed: Vec<u8> = mixed.collect();
+        let (answer, state) = compare(&empty(), &mixed, &Lent::FULL);
+        assert_eq!(answer, Ok([2 * map.len() as u64, 0]));
+        assert_eq!(state.difference(&plain), None);
+    }
+    for _ in 0..500 {
+        let mut mixed = Vec::new();
+        let mut passed = 0;
+        for segment in segments.clone() {
+            for _ in 0..random.below(3) {
+                mixed.extend(passed_over(&mut random));
+                passed += 1;
+            }
+            mixed.extend(segment);
+        }
+        let count = map.len() as u64 + passed;
+        let (answer, state) = compare(&empty(), &mixed, &Lent::FULL);
+        assert_eq!(answer, Ok([count, 0]));
+        assert_eq!(state.difference(&plain), None);
+        mixed.extend(record(random.pick(&[0, 16, 17, 65_535]), &[0; 52]));
+        let (answer, _) = compare(&empty(), &mixed, &Lent::FULL);
+        assert_eq!(answer, Ok([count, 11]));
     }
 }
 
@@ -122,10 +177,19 @@ fn any_files() {
         let mut state = empty();
         for _ in 0..3 {
             let count = random.below(12);
-            let mut bytes = records((0..count).map(|_| any_line(&mut random)));
+            let mut bytes = Vec::new();
+            let mut heads = Vec::new();
+            for _ in 0..count {
+                heads.push(bytes.len());
+                let other = random.once_in(5);
+                bytes.extend(match other {
+                    true => passed_over(&mut random),
+                    false => records([any_line(&mut random)]),
+                });
+            }
             if count > 0 && random.once_in(4) {
-                let place = 58 * random.below(count) + random.below(6);
-                bytes[place] = random.bits() as u8;
+                let place = random.pick(&heads) + random.below(6);
+                bytes[place] = random.bits() as u8 >> random.below(8);
             }
             if random.once_in(4) {
                 bytes.truncate(random.below(bytes.len() + 1));

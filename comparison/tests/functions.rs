@@ -6,8 +6,8 @@ use comparison::inputs::{self, BOUND};
 use comparison::random::Random;
 use oracle::rotation::{self, Rotation};
 use oracle::stand_ins::Coord;
-use oracle::{listing, rules};
-use tukmiheb::entries;
+use oracle::{records, rules};
+use tukmiheb::entries::{self, AT_END, A_SEGMENT, PASSED_OVER};
 use tukmiheb::Refusal;
 
 fn angular_order(points: [f64; 6]) {
@@ -111,18 +111,25 @@ fn record_at(bytes: &[u8], at: usize) {
     let mut line = [7.0; 7];
     let mut reply = [7; 4];
     let answered = entries::read_record(bytes, at, front(&mut line), front(&mut reply));
-    match rules::read_record(bytes, at) {
+    let left = bytes.get(at..).unwrap_or(&[]);
+    let found = match records::next(left) {
+        Ok(found) => found,
         Err(refusal) => {
             assert_eq!(answered.unwrap_err().number(), refusal.number());
             assert_eq!((line, reply), ([7.0; 7], [7; 4]));
+            return;
         }
-        Ok(None) => {
-            assert_eq!(answered, Ok(()));
-            assert_eq!((line, reply[0], reply[3]), ([7.0; 7], 0, 7));
-        }
-        Ok(Some((expected, next))) => {
-            assert_eq!(answered, Ok(()));
-            assert_eq!(reply, [1, expected.line_id.into(), next as u64, 7]);
+    };
+    assert_eq!(answered, Ok(()));
+    let Some((record, rest)) = found else {
+        assert_eq!((line, reply), ([7.0; 7], [AT_END, 7, 7, 7]));
+        return;
+    };
+    let next = (bytes.len() - rest.len()) as u64;
+    match record.segment() {
+        None => assert_eq!((line, reply), ([7.0; 7], [PASSED_OVER, 0, next, 7])),
+        Some(expected) => {
+            assert_eq!(reply, [A_SEGMENT, expected.line_id.into(), next, 7]);
             let (a, b) = (expected.start, expected.end);
             for (read, expected) in line.iter().zip([a.x, a.y, a.z, b.x, b.y, b.z, 7.0]) {
                 // The bits of a NaN are not kept from a file.
@@ -140,7 +147,13 @@ fn records() {
     for _ in 0..100_000 {
         let mut bytes = Vec::new();
         for _ in 0..random.below(4) {
-            bytes.extend(listing::record(&inputs::any_line(5, &mut random)));
+            // Kinds 2 to 15 are passed over, 0 and 16 refused.
+            let other = random.below(17) as u16;
+            bytes.extend(match random.below(4) {
+                0 => records::record(other, &[5; 52]),
+                1 => records::record(other, &vec![6; random.below(20)]),
+                _ => records::segment(&inputs::any_line(5, &mut random)),
+            });
         }
         for _ in 0..random.below(4).min(bytes.len()) {
             let place = random.below(bytes.len());

@@ -128,8 +128,10 @@ fn in_any_order(map: &[Segment], both: &mut Comparison, random: &mut Random) -> 
 fn waist() -> Vec<Line3D> {
     let path = Path::new(env!("CARGO_MANIFEST_DIR")).join("../samples/waist.seg");
     let bytes = std::fs::read(path).expect("the sample");
-    let lines = listing::records(&bytes);
-    lines.map(|line| line.expect("a segment")).collect()
+    let lines = listing::segments(&bytes);
+    lines
+        .map(|line| line.expect("a good record").expect("a segment"))
+        .collect()
 }
 
 fn segments<'a>(lines: impl IntoIterator<Item = &'a Line3D>) -> Vec<Segment> {

@@ -5,7 +5,7 @@ use comparison::random::Random;
 use comparison::{answer, answer_file, lend_lists, Packed, Slice};
 use oracle::calls::{self, Line};
 use oracle::state::{Call, Lent, Lists, Reply, Side, State, LISTS, TABLES};
-use oracle::{listing, Oracle};
+use oracle::{records, Oracle};
 use std::ops::RangeInclusive;
 use tukmiheb::entries::{FILE_LENGTH, STATE_LENGTH};
 use tukmiheb::layout::{HALF_EDGE_MARKS, NODE_MARKS};
@@ -112,7 +112,10 @@ fn in_each_stage() -> Vec<Held> {
 
 fn good_calls() -> Vec<Asked> {
     let segment = [[5, 0], [6, 1]];
-    all_calls(segment, &listing::record(&inputs::segment_line(segment, 9)))
+    all_calls(
+        segment,
+        &records::segment(&inputs::segment_line(segment, 9)),
+    )
 }
 
 /// A line with both ends at one node, and a file that ends within a record.
@@ -297,7 +300,7 @@ fn bytes_out_of_use_stay_with_files() {
                 .zip(&map[..count])
                 .map(|(id, &segment)| inputs::segment_line(segment, id))
                 .collect();
-            let file: Vec<u8> = lines.iter().flat_map(listing::record).collect();
+            let file: Vec<u8> = lines.iter().flat_map(records::segment).collect();
             let bytes = both.held.packed.marks.clone();
             let answered = both.held.add_file(&file, &Lent::FULL);
             assert_eq!(answered, Ok([count as u64, 0]));

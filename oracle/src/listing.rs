@@ -1,7 +1,8 @@
 //! The listing of a segment file.
 
 use crate::original::{steps, Line3D, PlanarGraph};
-use crate::rules::{self, Refusal};
+use crate::records;
+use crate::rules::Refusal;
 use crate::state::{Call, Lent, Reply, Side};
 use std::fmt::Write;
 
@@ -17,8 +18,8 @@ pub fn listing(bytes: &[u8], side: &mut impl Side) -> String {
 /// and no table is kept beside the graph. For timing.
 pub fn original_listing(bytes: &[u8]) -> String {
     let mut graph = PlanarGraph::new();
-    for line in records(bytes) {
-        graph.add_line(line.expect("a good record"));
+    for line in segments(bytes) {
+        graph.add_line(line.expect("a good record").expect("a segment"));
     }
     graph.sort_edges();
     let dangles = steps::prune(&mut graph).len();
@@ -40,41 +41,20 @@ pub fn original_listing(bytes: &[u8]) -> String {
     out
 }
 
-/// The segments of a file up to its end or to the first record that is refused.
-pub fn records(bytes: &[u8]) -> impl Iterator<Item = Result<Line3D, Refusal>> + '_ {
-    let mut at = Some(0);
-    std::iter::from_fn(move || match rules::read_record(bytes, at?) {
-        Ok(Some((line, next))) => {
-            at = Some(next);
-            Some(Ok(line))
-        }
-        Ok(None) => None,
-        Err(refusal) => {
-            at = None;
-            Some(Err(refusal))
-        }
-    })
+/// The segments of a file up to its end or to the first record that is refused, with nothing for a
+/// record that is passed over.
+pub fn segments(bytes: &[u8]) -> impl Iterator<Item = Result<Option<Line3D>, Refusal>> + '_ {
+    records::records(bytes).map(|record| Ok(record?.segment()))
 }
 
-/// A record of a segment file.
-pub fn record(line: &Line3D) -> Vec<u8> {
-    let mut bytes = Vec::from(54u32.to_le_bytes());
-    bytes.extend(1u16.to_le_bytes());
-    bytes.extend(line.line_id.to_le_bytes());
-    for value in [line.start, line.end]
-        .map(|end| [end.x, end.y, end.z])
-        .concat()
-    {
-        bytes.extend(value.to_le_bytes());
-    }
-    bytes
-}
-
-/// Adds every record; the refusal's number and the record's, if one is refused.
+/// Adds every segment; the refusal's number and the record's, if one is refused. Records passed over are
+/// counted too.
 fn add_records(bytes: &[u8], side: &mut impl Side) -> Result<(), (u32, usize)> {
     side.call(&Call::Create, &Lent::FULL);
-    for (number, line) in records(bytes).enumerate() {
-        let line = line.map_err(|refusal| (refusal.number(), number))?;
+    for (number, line) in segments(bytes).enumerate() {
+        let Some(line) = line.map_err(|refusal| (refusal.number(), number))? else {
+            continue;
+        };
         if let Reply::Refused(refusal) = side.call(&Call::Add(line), &Lent::FULL) {
             return Err((refusal, number));
         }

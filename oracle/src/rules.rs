@@ -1,6 +1,7 @@
-//! The documents' own rules, which the original has not: refusals 1 to 13 in their order, the stages,
+//! The documents' own rules, which the original has not: the refusals of calls in their order, the stages,
 //! room, the soundness list, and ties in face naming. Number 12, and the lists of line ids in the
-//! soundness list, are request §1's, number 13 is request §2's; all else is document 01's.
+//! soundness list, are request §1's, number 13 is request §2's; all else is document 01's. Numbers 9 to
+//! 11, 14 and 15 are the files' ([`records`](crate::records), [`ring_file`](crate::ring_file)).
 
 use crate::line_ids;
 use crate::original::{canonical_coordinate_bits, compare_angular, Coord3D, Line3D};
@@ -10,11 +11,6 @@ use std::cmp::Ordering;
 
 /// How far from zero an x or a y may lie.
 const COORDINATE_BOUND: f64 = 1_048_576.0;
-
-/// The length of a record and what its first field says of it.
-const RECORD_BYTES: usize = 58;
-const RECORD_LENGTH: u32 = 54;
-const SEGMENT_KIND: u16 = 1;
 
 /// Why a call is refused, by the documents' numbers.
 #[derive(Clone, Copy, Debug, PartialEq, Eq)]
@@ -32,6 +28,8 @@ pub enum Refusal {
     RecordKind = 11,
     TooManyPairs = 12,
     TooFewHoles = 13,
+    OutputTooShort = 14,
+    BadRing = 15,
 }
 
 impl Refusal {
@@ -40,9 +38,9 @@ impl Refusal {
     }
 }
 
-type Checked = Result<(), Refusal>;
+pub type Checked = Result<(), Refusal>;
 
-fn demand(holds: bool, refusal: Refusal) -> Checked {
+pub fn demand(holds: bool, refusal: Refusal) -> Checked {
     if holds {
         Ok(())
     } else {
@@ -209,28 +207,6 @@ fn is_fresh(nodes: usize, edges: usize, state: &State) -> bool {
     degrees == tables.nodes_degree[..nodes]
         && !tables.nodes_marked[..nodes].contains(&true)
         && !tables.dir_edges_marked[..2 * edges].contains(&true)
-}
-
-/// What stands at a place of a segment file: a segment with the place of the next record, the end,
-/// or one of numbers 9, 10 and 11.
-pub fn read_record(bytes: &[u8], at: usize) -> Result<Option<(Line3D, usize)>, Refusal> {
-    let rest = bytes.get(at..).unwrap_or(&[]);
-    if rest.is_empty() {
-        return Ok(None);
-    }
-    let record = rest.get(..RECORD_BYTES).ok_or(Refusal::RecordShort)?;
-    let number = |at: usize| u32::from_le_bytes(record[at..at + 4].try_into().unwrap());
-    let kind = u16::from_le_bytes(record[4..6].try_into().unwrap());
-    demand(number(0) == RECORD_LENGTH, Refusal::RecordLength)?;
-    demand(kind == SEGMENT_KIND, Refusal::RecordKind)?;
-    let float = |at: usize| f64::from_le_bytes(record[at..at + 8].try_into().unwrap());
-    let point = |at: usize| Coord3D::new(float(at), float(at + 8), float(at + 16));
-    let line = Line3D {
-        start: point(10),
-        end: point(34),
-        line_id: number(6),
-    };
-    Ok(Some((line, at + RECORD_BYTES)))
 }
 
 /// The angle comparison, which puts its three points to number 1.

@@ -4,7 +4,7 @@
 
 use oracle::original::{steps, Coord3D, Line3D, PlanarGraph};
 use oracle::state::{Call, Lent, Reply, Side, State, LIST_END, PAIR_LIMIT};
-use oracle::{calls, listing, rules, Oracle};
+use oracle::{calls, listing, records, rules, Oracle};
 
 fn line(x1: f64, y1: f64, x2: f64, y2: f64, line_id: u32) -> Line3D {
     Line3D {
@@ -181,7 +181,7 @@ fn nan_z() {
     let mut called = Oracle::default();
     called.call(&Call::Add(segment), &Lent::FULL);
     let mut read = Oracle::default();
-    listing::listing(&listing::record(&segment), &mut read);
+    listing::listing(&records::segment(&segment), &mut read);
     for oracle in [called, read] {
         let tables = &oracle.state().tables;
         assert_eq!(tables.nodes_z[0].to_bits(), bits);

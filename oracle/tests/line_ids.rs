@@ -2,7 +2,7 @@
 
 use oracle::original::{Coord3D, Line3D};
 use oracle::state::{Call, Lent, Reply, Side, State, EDGE_LIMIT, LIST_END, NODE_LIMIT, PAIR_LIMIT};
-use oracle::{line_ids, listing, Oracle};
+use oracle::{line_ids, listing, records, Oracle};
 use std::collections::{BTreeMap, BTreeSet};
 
 type Point = [i32; 2];
@@ -239,7 +239,7 @@ fn full_of_everything() {
 /// is not.
 #[test]
 fn a_file_of_passes() {
-    let record = |id: usize| listing::record(&line([0, 0], [1, 0], id as u32));
+    let record = |id: usize| records::segment(&line([0, 0], [1, 0], id as u32));
     let mut bytes: Vec<u8> = (0..PAIR_LIMIT).flat_map(record).collect();
     let listed = |bytes: &[u8]| listing::listing(bytes, &mut Oracle::default());
     let head = "nodes 2 edges 1 dangles 1 cuts 0 rings 0 euler yes\n";

@@ -2,7 +2,7 @@
 
 use oracle::original::{Coord3D, Line3D};
 use oracle::rotation::{least_rotation, Rotation};
-use oracle::{calls, listing, Oracle};
+use oracle::{calls, listing, records, Oracle};
 
 /// What the oracle prints for a call list.
 fn answers(list: &str) -> String {
@@ -51,7 +51,7 @@ const LISTED: [[i32; 4]; 4] = [[0, 0, 4, 0], [4, 0, 0, 3], [0, 3, 0, 0], [4, 0, 
 fn p4_listing() {
     let point = |x: i32, y: i32| Coord3D::new(x.into(), y.into(), 0.0);
     let records = LISTED.iter().zip(1..).map(|(&[x1, y1, x2, y2], line_id)| {
-        listing::record(&Line3D {
+        records::segment(&Line3D {
             start: point(x1, y1),
             end: point(x2, y2),
             line_id,
@@ -69,8 +69,13 @@ fn p4_listing() {
     other[58] = 53;
     assert_eq!(listed(&other), "refused 10 record 1\n");
     other[58] = 54;
-    other[62] = 2;
+    other[62] = 16;
     assert_eq!(listed(&other), "refused 11 record 1\n");
+    // a ring is passed over, and counted
+    other[62] = 2;
+    let without = "nodes 4 edges 3 dangles 3 cuts 0 rings 0 euler yes\n";
+    assert_eq!(listed(&other), without);
+    assert_eq!(listed(&other[..200]), "refused 9 record 3\n");
     // 4.0 with its bytes turned round is a tiny fraction.
     let mut turned = bytes;
     turned[34..42].reverse();

@@ -60,15 +60,48 @@ static void records(void) {
     double line[TUKMIHEB_SEGMENT_FLOATS];
     uint64_t reply[TUKMIHEB_RECORD_LENGTH] = {9, 9, 9};
     expect("reading", 0, tukmiheb_read_record(bytes, sizeof bytes, 0, line, reply));
-    expect("a record", 1, (long long)reply[0]);
+    expect("a segment", TUKMIHEB_A_SEGMENT, (long long)reply[0]);
     expect("its line id", 258, (long long)reply[1]);
     expect("the next place", 58, (long long)reply[2]);
     expect("x of its start", 1, (long long)line[0]);
     expect("y of its end", 2, (long long)line[4]);
     expect("at the end", 0, tukmiheb_read_record(bytes, sizeof bytes, 58, line, reply));
-    expect("no record", 0, (long long)reply[0]);
+    expect("no record", TUKMIHEB_AT_END, (long long)reply[0]);
     uint32_t answer = tukmiheb_read_record(bytes, sizeof bytes, 1, line, reply);
     expect("a short record", TUKMIHEB_REFUSED_RECORD_SHORT, answer);
+    bytes[4] = 15;
+    expect("reading", 0, tukmiheb_read_record(bytes, sizeof bytes, 0, line, reply));
+    expect("a record passed over", TUKMIHEB_PASSED_OVER, (long long)reply[0]);
+    expect("the next place", 58, (long long)reply[2]);
+}
+
+static void ring_files(void) {
+    const size_t first[] = {0, 1}, length[] = {3, 2};
+    const uint16_t face[] = {1, 0}, nodes[] = {0, 1, 2};
+    const int64_t doubled[] = {12, -12};
+    uint8_t bytes[46];
+    uint64_t written[TUKMIHEB_WRITTEN_LENGTH];
+    expect("too few bytes", TUKMIHEB_REFUSED_OUTPUT_TOO_SHORT,
+           tukmiheb_write_rings(first, 2, length, 2, face, 2, doubled, 2, nodes, 3, bytes, 45, written));
+    expect("past the nodes", TUKMIHEB_REFUSED_BAD_RING,
+           tukmiheb_write_rings(first, 2, length, 2, face, 2, doubled, 2, nodes, 2, bytes, 46, written));
+    expect("writing", 0,
+           tukmiheb_write_rings(first, 2, length, 2, face, 2, doubled, 2, nodes, 3, bytes, 46, written));
+    expect("the bytes", 46, (long long)written[0]);
+    size_t first_read[2], length_read[2];
+    uint16_t face_read[2], nodes_read[5];
+    int64_t doubled_read[2];
+    uint64_t counts[TUKMIHEB_READ_LENGTH];
+    expect("reading", 0,
+           tukmiheb_read_rings(bytes, 46, first_read, 2, length_read, 2, face_read, 2, doubled_read, 2,
+                               nodes_read, 5, counts));
+    expect("the rings", 2, (long long)counts[0]);
+    expect("the node numbers", 5, (long long)counts[1]);
+    expect("the second ring's place", 3, (long long)first_read[1]);
+    expect("its length", 2, (long long)length_read[1]);
+    expect("the first ring's face", 1, face_read[0]);
+    expect("the second ring's doubled area", -12, doubled_read[1]);
+    expect("its last node", 2, nodes_read[4]);
 }
 
 static void questions(void) {
@@ -90,6 +123,7 @@ int main(void) {
     additions();
     stages();
     records();
+    ring_files();
     questions();
     return EXIT_SUCCESS;
 }

@@ -1,8 +1,9 @@
 /*
- * The tissue map graph for C: the entries of the five archives that `rt staticlib` makes,
+ * The tissue map graph for C: the entries of the six archives that `rt staticlib` makes,
  *
  *     cc -I station/include program.c -L target/staticlib \
- *         -lstation_building -lstation_files -lstation_steps -lstation_rings -lstation_questions
+ *         -lstation_building -lstation_files -lstation_ring_files -lstation_steps -lstation_rings \
+ *         -lstation_questions
  *
  * station/c/list.c is a whole program. docs/ARCHITECTURE.md says what the tables hold, what each stage
  * allows, and what every number means.
@@ -85,10 +86,14 @@ extern "C" {
 #define TUKMIHEB_CENSUS_LENGTH 6
 /* Behind these the comparisons of naming, and how many half-edges and holes were written. */
 #define TUKMIHEB_RINGS_LENGTH (TUKMIHEB_CENSUS_LENGTH + 3)
-/* How many records were taken, and the number of what ended it: 0 at the file's end. */
+/* How many records were taken, those passed over among them, and the number of what ended it: 0 at the file's end. */
 #define TUKMIHEB_FILE_LENGTH 2
-/* 1 for a segment or 0 for the end, its line id, the place of the next record. */
+/* What there is at a place (enum tukmiheb_found), its line id, the place of the next record. */
 #define TUKMIHEB_RECORD_LENGTH 3
+/* How many bytes of a ring file were written. */
+#define TUKMIHEB_WRITTEN_LENGTH 1
+/* How many rings and how many node numbers of a ring file were written into lists. */
+#define TUKMIHEB_READ_LENGTH 2
 /* 0 before, 1 at one place, 2 after. */
 #define TUKMIHEB_ORDER_LENGTH 1
 /* The place where the least rotation starts, and the comparisons made. */
@@ -107,7 +112,9 @@ enum tukmiheb_refusal {
     TUKMIHEB_REFUSED_RECORD_LENGTH = 10,
     TUKMIHEB_REFUSED_RECORD_KIND = 11,
     TUKMIHEB_REFUSED_TOO_MANY_PAIRS = 12,
-    TUKMIHEB_REFUSED_TOO_FEW_HOLES = 13
+    TUKMIHEB_REFUSED_TOO_FEW_HOLES = 13,
+    TUKMIHEB_REFUSED_OUTPUT_TOO_SHORT = 14,
+    TUKMIHEB_REFUSED_BAD_RING = 15
 };
 
 enum tukmiheb_stage {
@@ -117,6 +124,9 @@ enum tukmiheb_stage {
     TUKMIHEB_CUT = 3,
     TUKMIHEB_RINGED = 4
 };
+
+/* What there is at a place of a segment file: nothing, a segment, or a ring or a record of kinds 3 to 15. */
+enum tukmiheb_found { TUKMIHEB_AT_END = 0, TUKMIHEB_A_SEGMENT = 1, TUKMIHEB_PASSED_OVER = 2 };
 
 enum tukmiheb_side { TUKMIHEB_FLAT = 0, TUKMIHEB_ENCLOSED = 1, TUKMIHEB_OPEN = 2 };
 
@@ -161,7 +171,10 @@ uint32_t tukmiheb_add_line(uint16_t state[TUKMIHEB_STATE_LENGTH], double x1, dou
 
 /* ---- station_files */
 
-/* Adds the records of a segment file up to its end or to the first bad one. Stage 0. Refusals: 6, 7, 5. */
+/*
+ * Adds the segments of a file up to its end or to the first bad record; rings and records of kinds 3 to 15 are
+ * passed over. Stage 0. Refusals: 6, 7, 5.
+ */
 uint32_t tukmiheb_add_records(uint16_t state[TUKMIHEB_STATE_LENGTH], const uint8_t *bytes,
                               size_t bytes_length, double *floats, size_t floats_length,
                               uint16_t *numbers, size_t numbers_length, uint16_t *stars,
@@ -169,10 +182,37 @@ uint32_t tukmiheb_add_records(uint16_t state[TUKMIHEB_STATE_LENGTH], const uint8
                               uint32_t *ids, size_t ids_length,
                               uint64_t reply[TUKMIHEB_FILE_LENGTH]);
 
-/* Reads the record at a place. At the end only the reply's first number is written. Refusals: 9, 10, 11. */
+/*
+ * Reads the record at a place. At the end only the reply's first number is written, and `line` for a segment
+ * alone. Refusals: 9, 10, 11.
+ */
 uint32_t tukmiheb_read_record(const uint8_t *bytes, size_t bytes_length, size_t at,
                               double line[TUKMIHEB_SEGMENT_FLOATS],
                               uint64_t reply[TUKMIHEB_RECORD_LENGTH]);
+
+/* ---- station_ring_files */
+
+/*
+ * Writes rings as a file, from the first byte of `out` on. Ring k is entry k of the four ring slices, over the
+ * nodes; there are as many as the shortest of the four has. Refusals: 15 (any ring), 14.
+ */
+uint32_t tukmiheb_write_rings(const size_t *ring_first, size_t ring_first_length,
+                              const size_t *ring_length, size_t ring_length_length,
+                              const uint16_t *ring_face, size_t ring_face_length,
+                              const int64_t *ring_doubled, size_t ring_doubled_length,
+                              const uint16_t *nodes, size_t nodes_length, uint8_t *out,
+                              size_t out_length, uint64_t reply[TUKMIHEB_WRITTEN_LENGTH]);
+
+/*
+ * Reads the rings of a file, each beginning where the one before it ends; segments and records of kinds 3 to 15
+ * are passed over. Refusals: record by record 9, 10, 11, 15; then 14.
+ */
+uint32_t tukmiheb_read_rings(const uint8_t *bytes, size_t bytes_length, size_t *ring_first,
+                             size_t ring_first_length, size_t *ring_length,
+                             size_t ring_length_length, uint16_t *ring_face,
+                             size_t ring_face_length, int64_t *ring_doubled,
+                             size_t ring_doubled_length, uint16_t *nodes, size_t nodes_length,
+                             uint64_t reply[TUKMIHEB_READ_LENGTH]);
 
 /* ---- station_steps */
 

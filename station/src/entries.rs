@@ -27,8 +27,23 @@ pub const RINGS_LENGTH: usize = CENSUS_LENGTH + 3;
 /// How many records were taken, and the number of what ended it.
 pub const FILE_LENGTH: usize = 2;
 
-/// Whether there is a record (1 or 0), its line id, and the place of the next.
+/// What there is ([`AT_END`], [`A_SEGMENT`] or [`PASSED_OVER`]), its line id, and the place of the next record.
 pub const RECORD_LENGTH: usize = 3;
+
+/// No record: the file ends here.
+pub const AT_END: u64 = 0;
+
+/// A segment.
+pub const A_SEGMENT: u64 = 1;
+
+/// A record that the reader of segments passes over: a ring, or one of kinds 3 to 15.
+pub const PASSED_OVER: u64 = 2;
+
+/// How many bytes of a ring file were written.
+pub const WRITTEN_LENGTH: usize = 1;
+
+/// How many rings and how many node numbers of a ring file were written into lists.
+pub const READ_LENGTH: usize = 2;
 
 /// x and y of a centre and two targets.
 pub const POINTS_LENGTH: usize = 6;
@@ -92,6 +107,37 @@ pub struct HoleRecord {
     pub holder: u16,
     /// The open ring's doubled area.
     pub doubled: i64,
+}
+
+/// A list of rings, lent to the writer of ring files: ring k is entry k of the first four slices. It is as
+/// long as the shortest of these four.
+#[derive(Clone, Copy)]
+pub struct FileLists<'a> {
+    /// Where each ring begins among the nodes.
+    pub first: &'a [usize],
+    /// How many nodes it has.
+    pub length: &'a [usize],
+    /// Its face number.
+    pub face: &'a [u16],
+    /// Its doubled area.
+    pub doubled: &'a [i64],
+    /// The node numbers of all rings. Rings may share some and leave others out.
+    pub nodes: &'a [u16],
+}
+
+/// Room for a list of rings, lent to the reader of ring files: for so many rings as the shortest of the
+/// first four slices has entries. What is not written keeps its contents.
+pub struct FileRoom<'a> {
+    /// Where each ring begins among the nodes.
+    pub first: &'a mut [usize],
+    /// How many nodes it has.
+    pub length: &'a mut [usize],
+    /// Its face number.
+    pub face: &'a mut [u16],
+    /// Its doubled area.
+    pub doubled: &'a mut [i64],
+    /// The node numbers, ring by ring.
+    pub nodes: &'a mut [u16],
 }
 
 fn answered(number: u32) -> Result<(), Refusal> {
@@ -167,8 +213,8 @@ pub fn add_line(
     )
 }
 
-/// Adds the records of a segment file, up to its end or to the first that is refused. `reply` gets how
-/// many were taken, and the number of what ended it: 0 at the end, else that of the refusal. The
+/// Adds the records of a segment file, up to its end or to the first that is refused. Rings and records of
+/// kinds 3 to 15 are passed over. `reply` gets how many were taken, those among them, and the number of what ended it: 0 at the end, else that of the refusal. The
 /// records before a refused one stay added, so the call itself succeeds there.
 ///
 /// # Errors
@@ -289,8 +335,9 @@ pub fn reset(state: &mut [u16; STATE_LENGTH], slices: &mut Slices) -> Result<(),
     lend!(tukmiheb_reset, state, [], slices, [])
 }
 
-/// Reads what stands at a place of a segment file. `reply` gets 1 for a segment or 0 for the end,
-/// the line id, and the place of the next record; `line` the segment's start and end.
+/// Reads what stands at a place of a segment file. `reply` gets [`A_SEGMENT`], its line id and the place of
+/// the next record, and `line` its start and end; or [`PASSED_OVER`], 0 and the place of the next record; or
+/// [`AT_END`] in its first entry, with the others as they were.
 ///
 /// # Errors
 ///
@@ -303,6 +350,69 @@ pub fn read_record(
 ) -> Result<(), Refusal> {
     // SAFETY: as in `lend`.
     answered(unsafe { ffi::tukmiheb_read_record(bytes.as_ptr(), bytes.len(), at, line, reply) })
+}
+
+/// Writes the rings as the bytes of a file, from the first byte of `out` on. `reply` gets how many bytes.
+///
+/// # Errors
+///
+/// 15 where any ring is empty, longer than 65,535 or reaches past the nodes; then 14 where `out` is too short
+/// for all of them.
+pub fn write_rings(
+    rings: &FileLists,
+    out: &mut [u8],
+    reply: &mut [u64; WRITTEN_LENGTH],
+) -> Result<(), Refusal> {
+    // SAFETY: as in `lend`.
+    answered(unsafe {
+        ffi::tukmiheb_write_rings(
+            rings.first.as_ptr(),
+            rings.first.len(),
+            rings.length.as_ptr(),
+            rings.length.len(),
+            rings.face.as_ptr(),
+            rings.face.len(),
+            rings.doubled.as_ptr(),
+            rings.doubled.len(),
+            rings.nodes.as_ptr(),
+            rings.nodes.len(),
+            out.as_mut_ptr(),
+            out.len(),
+            reply,
+        )
+    })
+}
+
+/// Reads the rings of a file, places closed up: each begins where the one before it ends. `reply` gets how
+/// many rings and how many node numbers were written.
+///
+/// # Errors
+///
+/// The first record's refusal, 9, 10, 11 or 15; then 14 where there is too little room for all rings or for
+/// all node numbers.
+pub fn read_rings(
+    bytes: &[u8],
+    room: &mut FileRoom,
+    reply: &mut [u64; READ_LENGTH],
+) -> Result<(), Refusal> {
+    // SAFETY: as in `lend`.
+    answered(unsafe {
+        ffi::tukmiheb_read_rings(
+            bytes.as_ptr(),
+            bytes.len(),
+            room.first.as_mut_ptr(),
+            room.first.len(),
+            room.length.as_mut_ptr(),
+            room.length.len(),
+            room.face.as_mut_ptr(),
+            room.face.len(),
+            room.doubled.as_mut_ptr(),
+            room.doubled.len(),
+            room.nodes.as_mut_ptr(),
+            room.nodes.len(),
+            reply,
+        )
+    })
 }
 
 /// Compares the directions from a centre to two targets (`points`: x and y of the three). `reply`

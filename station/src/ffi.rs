@@ -6,8 +6,8 @@
 //! pointers. It only reads what is `const`.
 
 use crate::entries::{
-    HoleRecord, ADDED_LENGTH, CENSUS_LENGTH, COUNT_LENGTH, FILE_LENGTH, ORDER_LENGTH,
-    RECORD_LENGTH, RINGS_LENGTH, ROTATION_LENGTH, STATE_LENGTH,
+    HoleRecord, ADDED_LENGTH, CENSUS_LENGTH, COUNT_LENGTH, FILE_LENGTH, ORDER_LENGTH, READ_LENGTH,
+    RECORD_LENGTH, RINGS_LENGTH, ROTATION_LENGTH, STATE_LENGTH, WRITTEN_LENGTH,
 };
 use crate::layout::SEGMENT_FLOATS;
 
@@ -68,6 +68,42 @@ extern "C" {
         at: usize,
         line: *mut [f64; SEGMENT_FLOATS],
         reply: *mut [u64; RECORD_LENGTH],
+    ) -> u32;
+}
+
+// ---- station_ring_files
+
+extern "C" {
+    pub fn tukmiheb_write_rings(
+        ring_first: *const usize,
+        ring_first_length: usize,
+        ring_length: *const usize,
+        ring_length_length: usize,
+        ring_face: *const u16,
+        ring_face_length: usize,
+        ring_doubled: *const i64,
+        ring_doubled_length: usize,
+        nodes: *const u16,
+        nodes_length: usize,
+        out: *mut u8,
+        out_length: usize,
+        reply: *mut [u64; WRITTEN_LENGTH],
+    ) -> u32;
+
+    pub fn tukmiheb_read_rings(
+        bytes: *const u8,
+        bytes_length: usize,
+        ring_first: *mut usize,
+        ring_first_length: usize,
+        ring_length: *mut usize,
+        ring_length_length: usize,
+        ring_face: *mut u16,
+        ring_face_length: usize,
+        ring_doubled: *mut i64,
+        ring_doubled_length: usize,
+        nodes: *mut u16,
+        nodes_length: usize,
+        reply: *mut [u64; READ_LENGTH],
     ) -> u32;
 }
 

@@ -112,7 +112,7 @@ pub struct Added {
 /// them, if that ended it.
 #[derive(Clone, Copy, Debug, PartialEq, Eq)]
 pub struct Records {
-    /// How many records were taken.
+    /// How many records were taken, those passed over among them.
     pub taken: usize,
     /// Why the next one was refused; none at the file's end.
     pub stopped: Option<Refusal>,
@@ -301,7 +301,7 @@ impl Graph {
     }
 
     /// Adds the segments of a file (stage `Building`), up to its end or to the first record that is
-    /// refused. The segments before that record stay added: [`Records`] says how many, and why it
+    /// refused. Rings and records of kinds 3 to 15 are passed over. The segments before that record stay added: [`Records`] says how many, and why it
     /// is refused. This tests the tables once, where a call of `add_line` for each segment tests
     /// them for each.
     ///

@@ -2,11 +2,12 @@
 //!
 //! The work is done by a static library that is proved to do what its definitions say, on every
 //! input. This crate lends it tables, numbers and byte slices and hands out what comes back. Build
-//! the library's five archives first, in the root of the repository:
+//! the library's six archives first, in the root of the repository:
 //!
 //! ```text
 //! rt staticlib station_building
 //! rt staticlib station_files
+//! rt staticlib station_ring_files
 //! rt staticlib station_steps
 //! rt staticlib station_rings
 //! rt staticlib station_questions
@@ -77,6 +78,23 @@
 //! # Ok::<(), Refusal>(())
 //! ```
 //!
+//! A finished map is kept as a ring file, and opened again without its graph:
+//!
+//! ```
+//! use tukmiheb::{read_rings, Graph};
+//!
+//! # let waist = concat!(env!("CARGO_MANIFEST_DIR"), "/../samples/waist.seg");
+//! let map = Graph::polygonize(&std::fs::read(waist)?)?;
+//! let file = map.rings().write();
+//! let kept = read_rings(&file)?;
+//! for (ring, kept) in map.rings().into_iter().zip(kept.iter()) {
+//!     assert_eq!(ring.face(), kept.face);
+//!     assert!(ring.nodes().eq(kept.nodes.iter().copied()));
+//! }
+//! # assert_eq!(kept.len(), map.rings().len());
+//! # Ok::<(), Box<dyn std::error::Error>>(())
+//! ```
+//!
 //! # Threads and stack
 //!
 //! Every type here is `Send` and `Sync`. The library has no memory of its own: a call works on what it is
@@ -91,6 +109,7 @@ pub mod layout;
 mod line_ids;
 mod map;
 mod refusal;
+mod ring_file;
 mod rings;
 mod rotation;
 mod segment_file;
@@ -101,6 +120,7 @@ pub use holes::{Compartment, Hole};
 pub use line_ids::LineIds;
 pub use map::{RefusedRecord, TissueMap};
 pub use refusal::Refusal;
+pub use ring_file::{read_rings, FileRing, FileRings};
 pub use rings::{Ring, RingIter, RingSide, Rings};
 pub use rotation::{least_rotation, Rotation};
 pub use segment_file::{segments, Segments};

@@ -24,17 +24,22 @@ pub enum Refusal {
     Unsound = 7,
     /// A lent result list is too short.
     ListTooShort = 8,
-    /// A file ends within a record.
+    /// A file ends within a record: fewer than 4 bytes are left, or fewer than its length says.
     RecordShort = 9,
-    /// A record has another length than its kind needs.
+    /// A record's length is below 2, not 54 for a segment, or below 14 for a ring.
     RecordLength = 10,
-    /// A record is of no known kind.
+    /// A record's kind is not 1 to 15.
     RecordKind = 11,
     /// The segment needs a place for its line id, and all
     /// [`PAIR_LIMIT`](crate::layout::PAIR_LIMIT) are in use.
     TooManyPairs = 12,
     /// The lent hole list is too short.
     TooFewHoles = 13,
+    /// What is lent to write into, bytes, rings or node numbers, is too short for all records.
+    OutputTooShort = 14,
+    /// A ring to be written has no node, more than 65,535, or reaches past its list; or the count in a ring's
+    /// record is 0 or does not fit its length.
+    BadRing = 15,
 }
 
 impl Refusal {
@@ -53,6 +58,8 @@ impl Refusal {
         Refusal::RecordKind,
         Refusal::TooManyPairs,
         Refusal::TooFewHoles,
+        Refusal::OutputTooShort,
+        Refusal::BadRing,
     ];
 
     /// The refusal with this number, if there is one.
@@ -82,6 +89,8 @@ impl Refusal {
             Refusal::RecordKind => "record kind",
             Refusal::TooManyPairs => "too many pairs",
             Refusal::TooFewHoles => "too few holes",
+            Refusal::OutputTooShort => "output too short",
+            Refusal::BadRing => "bad ring",
         }
     }
 
@@ -97,10 +106,12 @@ impl Refusal {
             Refusal::Unsound => "The tables contradict themselves.",
             Refusal::ListTooShort => "A result list is too short for the graph.",
             Refusal::RecordShort => "The file ends within a record.",
-            Refusal::RecordLength => "The record's length is not 54.",
-            Refusal::RecordKind => "The record's kind is not 1.",
+            Refusal::RecordLength => "The record's length does not fit its kind.",
+            Refusal::RecordKind => "The record's kind is not 1 to 15.",
             Refusal::TooManyPairs => "The table of line ids has no space for one more.",
             Refusal::TooFewHoles => "The hole list has fewer records than there are open rings.",
+            Refusal::OutputTooShort => "There is too little room for all records.",
+            Refusal::BadRing => "A ring has no node or too many, or its count is wrong.",
         }
     }
 }

@@ -194,6 +194,11 @@ impl<'a> Ring<'a> {
         self.graph.rings.area[self.number]
     }
 
+    /// Its area, doubled, which is a whole number.
+    pub fn doubled(&self) -> i64 {
+        (2.0 * self.area()) as i64
+    }
+
     /// Its half-edges in their order, from the lowest.
     pub fn half_edges(&self) -> impl Iterator<Item = DirEdgeId> + 'a {
         let rings = &self.graph.rings;

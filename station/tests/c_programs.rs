@@ -7,12 +7,20 @@ use std::mem::{offset_of, size_of};
 use std::path::{Path, PathBuf};
 use std::process::{Command, Stdio};
 use tukmiheb::entries::{
-    HoleRecord, ADDED_LENGTH, CENSUS_LENGTH, COUNT_LENGTH, ENCLOSED, FILE_LENGTH, FLAT, OPEN,
-    ORDER_LENGTH, RECORD_LENGTH, RINGS_LENGTH, ROTATION_LENGTH, STATE_LENGTH,
+    HoleRecord, ADDED_LENGTH, AT_END, A_SEGMENT, CENSUS_LENGTH, COUNT_LENGTH, ENCLOSED,
+    FILE_LENGTH, FLAT, OPEN, ORDER_LENGTH, PASSED_OVER, READ_LENGTH, RECORD_LENGTH, RINGS_LENGTH,
+    ROTATION_LENGTH, STATE_LENGTH, WRITTEN_LENGTH,
 };
 use tukmiheb::{layout, Refusal, Stage};
 
-const ARCHIVES: [&str; 5] = ["building", "files", "steps", "rings", "questions"];
+const ARCHIVES: [&str; 6] = [
+    "building",
+    "files",
+    "ring_files",
+    "steps",
+    "rings",
+    "questions",
+];
 
 fn folder() -> &'static Path {
     Path::new(env!("CARGO_MANIFEST_DIR"))
@@ -73,6 +81,11 @@ fn the_listing_in_c() {
     assert_eq!(listed(&program, &bytes[..100]), "refused 9 record 1\n");
     let nothing = "nodes 0 edges 0 dangles 0 cuts 0 rings 0 euler yes\n";
     assert_eq!(listed(&program, &[]), nothing);
+    // Records of other kinds are passed over, and counted.
+    let skipped = [4, 0, 0, 0, 9, 0, 7, 7];
+    let mixed = [&skipped[..], bytes, &skipped, &skipped[..7]].concat();
+    assert_eq!(listed(&program, &mixed[..mixed.len() - 7]), listing);
+    assert_eq!(listed(&program, &mixed), "refused 9 record 28\n");
     // Longer than what is read at once: the same passes again and again.
     assert_eq!(listed(&program, &bytes.repeat(200)), listing);
 }
@@ -120,8 +133,13 @@ fn numbers() -> Vec<(&'static str, usize)> {
         ("RINGS_LENGTH", RINGS_LENGTH),
         ("FILE_LENGTH", FILE_LENGTH),
         ("RECORD_LENGTH", RECORD_LENGTH),
+        ("WRITTEN_LENGTH", WRITTEN_LENGTH),
+        ("READ_LENGTH", READ_LENGTH),
         ("ORDER_LENGTH", ORDER_LENGTH),
         ("ROTATION_LENGTH", ROTATION_LENGTH),
+        ("AT_END", AT_END as usize),
+        ("A_SEGMENT", A_SEGMENT as usize),
+        ("PASSED_OVER", PASSED_OVER as usize),
         ("FLAT", FLAT.into()),
         ("ENCLOSED", ENCLOSED.into()),
         ("OPEN", OPEN.into()),

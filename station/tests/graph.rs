@@ -160,10 +160,20 @@ fn segment_files() {
     assert_eq!(segments(&[]).next(), None);
     let refused = |bytes: &[u8]| segments(bytes).last().expect("a record").unwrap_err();
     assert_eq!(refused(&bytes[..57]), Refusal::RecordShort);
-    bytes[4] = 2;
+    bytes[4] = 16;
     assert_eq!(refused(&bytes), Refusal::RecordKind);
+    bytes[4] = 1;
     bytes[0] = 53;
     assert_eq!(refused(&bytes), Refusal::RecordLength);
+    // Rings and kinds 3 to 15 are passed over.
+    for kind in 2..16 {
+        bytes[0] = 54;
+        bytes[4] = kind;
+        assert_eq!(segments(&bytes).next(), None);
+        let good = record([0.0, 0.0, 0.0, 4.0, 3.0, 0.0], 9);
+        let mixed = [&bytes[..], &good, &bytes].concat();
+        assert!(segments(&mixed).eq(segments(&good)));
+    }
 }
 
 #[test]
@@ -207,5 +217,5 @@ fn refusals_have_numbers_names_and_sentences() {
             .starts_with(&format!("refused {number}: ")));
     }
     assert_eq!(Refusal::from_number(0), None);
-    assert_eq!(Refusal::from_number(14), None);
+    assert_eq!(Refusal::from_number(16), None);
 }

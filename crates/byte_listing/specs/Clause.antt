@@ -9,7 +9,7 @@ use lib.ListN.{length}
 use Rattle.geometry.specs.Reply.{Reply, refused, success}
 use Rattle.rules.specs.Limits.{limits}
 use Rattle.tables.specs.Refusals.{refusalNumber}
-use Rattle.listing_text.specs.Buffer.{written}
+use Rattle.lists.specs.Buffer.{written}
 use Rattle.listing_steps.specs.Rooms.{listingRoom}
 use Rattle.byte_listing.specs.File.{fileText}
 use Rattle.byte_listing.specs.declared.Listed.{Listed}

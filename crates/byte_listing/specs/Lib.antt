@@ -1,5 +1,4 @@
 -- What is printed for a segment file, and what listing one that is held in memory ensures. Read in this order.
 pub mod File
-pub mod Ends
 pub mod Clause
 pub mod Worked

@@ -1,22 +1,14 @@
 // The listing of a segment file that is held in memory, and the text of what was taken from a file.
-ghost use Prim.Native.Nat.{_≤_};
 ghost use mathlib.Core.Path.{_≡_};
-ghost use lib.ListN.{length, drop};
-ghost use Rattle.adding.specs.Outcomes.{Ready};
 ghost use Rattle.rules.specs.Limits.{limits};
-ghost use Rattle.rules.specs.SegmentFile.{readAt};
 ghost use Rattle.tables.specs.Regions.{stateIn};
-ghost use Rattle.intake.specs.Taking.{takeFile};
-ghost use Rattle.intake.specs.Answers.{replyOf, takingOf};
-ghost use Rattle.listing_text.specs.Buffer.{Put};
+ghost use Rattle.intake.specs.Answers.{replyOf};
+ghost use Rattle.lists.specs.Buffer.{Put};
 ghost use Rattle.listing_steps.specs.Due.{Due};
 ghost use Rattle.byte_listing.specs.File.{textOf};
-ghost use Rattle.byte_listing.specs.Ends.{lastReply};
 ghost use Rattle.byte_listing.specs.Clause.{listedReply, ListsBytes};
 use intake::TakeReply;
-use intake::Taken;
 use listing_steps::LISTING_ROOM;
-use segment_file::RECORD_BYTES;
 use tables::FLOATS;
 use tables::IDS;
 use tables::MARKS;
@@ -76,43 +68,6 @@ pub fn put_taken(
     }
 }
 
-// The answer to all of a file: the first bad record's, or else that to what stands behind the last
-// record, which is the file's end or bytes too few for a record.
-fn last_reply(bytes: &[u8], at: usize, reply: TakeReply) -> TakeReply
-    requires { ⌜ at ≤ length (now bytes) ⌝ }
-    ensures { λ r. ⌜ replyOf r ≡ lastReply (replyOf reply) (readAt (drop at (now (bytes .entry))) 0) ⌝ }
-{
-    match reply {
-        TakeReply::Done => intake::end_reply(&bytes[at..]),
-        TakeReply::Refused(number) => TakeReply::Refused(number),
-    }
-}
-
-// A file from its first byte to its end or to its first bad record.
-fn take_file(
-    graph: PlanarGraph,
-    bytes: &[u8],
-    floats: &mut [f64],
-    numbers: &mut [u16],
-    stars: &mut [u16],
-    marks: &mut [bool],
-    ids: &mut [u32],
-) -> Taken
-    requires { ⌜ Ready limits (stateIn limits graph (now floats) (now numbers) (now stars) (now marks) (now ids)) ⌝ }
-    ensures { λ r. ⌜ takingOf r (now (floats .exit)) (now (numbers .exit)) (now (stars .exit)) (now (marks .exit)) (now (ids .exit))
-        ≡ takeFile limits (now (bytes .entry)) (stateIn limits graph (now (floats .entry)) (now (numbers .entry)) (now (stars .entry)) (now (marks .entry)) (now (ids .entry))) ⌝ }
-{
-    let taken = intake::take_records(graph, bytes, floats, numbers, stars, marks, ids);
-    let after = taken.graph;
-    let count = taken.count;
-    let reply = taken.reply;
-    Taken {
-        graph: after,
-        count,
-        reply: last_reply(bytes, RECORD_BYTES * count, reply),
-    }
-}
-
 // Lists a segment file at the front of `out` and answers how many bytes the listing has. An `out`
 // shorter than `LISTING_ROOM` is refused with number 8, and nothing is written.
 pub fn list_bytes(bytes: &[u8], out: &mut [u8]) -> Listed
@@ -126,7 +81,7 @@ pub fn list_bytes(bytes: &[u8], out: &mut [u8]) -> Listed
     let mut stars = [0u16; STARS];
     let mut marks = [false; MARKS];
     let mut ids = [0u32; IDS];
-    let taken = take_file(
+    let taken = intake::take_records(
         empty_graph(),
         bytes,
         &mut floats,

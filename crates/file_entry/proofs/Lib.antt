@@ -1,4 +1,4 @@
--- what ends a taking
+-- what a taking came to
 pub mod Ending
 -- the tests of the entry
 pub mod Shell

@@ -6,10 +6,10 @@ use Rattle.rules.specs.Limits.{Limits}
 use Rattle.rules.specs.State.{State, roomy, sound}
 use Rattle.rules.specs.Adding.{Outcome, Nothing, add}
 use Rattle.rules.specs.Stages.{step}
-use Rattle.rules.specs.SegmentFile.{Read, readAt}
-use Rattle.intake.specs.Taking.{Taking, takeFrom, endReply, takeFile}
+use Rattle.rules.specs.SegmentFile.{segmentNext}
+use Rattle.intake.specs.Taking.{Taking, takeOn, takeFile}
 
--- what is answered: how many records were taken, and the number of the refusal that ended the taking, 0 where the file did
+-- what is answered: how many records were taken, those passed over among them, and the number of the refusal that ended the taking, 0 where the file did
 pub record Records : Type 0 where
   pub taken : ℕ
   pub number : ℕ
@@ -24,11 +24,6 @@ abbrev pub endNumber : Reply Nothing → ℕ
 endNumber (refused n) = n
 endNumber (success none) = 0
 
--- the same of records that were taken one after another and of what stands behind the last of them
-abbrev pub lastNumber : Reply Nothing → Read → ℕ
-lastNumber (refused n) r = n
-lastNumber (success none) r = endNumber (endReply r)
-
 -- a taking as a success: what it came to is its value, since the records before a bad one were added
 abbrev pub recordsTaken : Taking → Outcome Records Nothing
 recordsTaken t = record {
@@ -39,5 +34,5 @@ recordsTaken t = record {
 
 -- 6, 7 and 5, tested once; then the file from its first byte to its end or to its first bad record
 unfoldable pub addRecords : Limits → List ℕ → State → Outcome Records Nothing
-unfolding roomy sound readAt add takeFrom
+unfolding roomy sound segmentNext add takeOn
 addRecords l bytes s = step l 0 s (record {}) (recordsTaken (takeFile l bytes s))

@@ -34,6 +34,10 @@ empty stage length = record {
 abbrev record-of : ℕ → List ℕ
 record-of byte = 54 ∷ 0 ∷ 0 ∷ 0 ∷ 1 ∷ 0 ∷ 1 ∷ 0 ∷ 0 ∷ 0 ∷ (replicate 30 0 ++ byte ∷ 64 ∷ replicate 16 0)
 
+-- a record of kind 3 that says nothing
+abbrev skipped : List ℕ
+skipped = 2 ∷ 0 ∷ 0 ∷ 0 ∷ 3 ∷ 0 ∷ []
+
 -- two segments, and the first again
 abbrev file : List ℕ
 file = record-of 16 ++ record-of 24 ++ record-of 16
@@ -49,8 +53,8 @@ paired pairs bytes =
 abbrev taken : ℕ → ℕ → Reply Records
 taken n number = success (record { taken = n; number = number })
 
--- the file, none, the file without its last byte, with another length and another kind in record 1, with -0.0 for its first x and 0.0 for the
--- second; then a stage that is not 0, a stage that is none, and a table too short; then two pairs, which do for the same id again and not for another
+-- the file, none, the file without its last byte, with another length and with kinds 16 and 2 in record 1, with a skipped record before and behind, and
+-- without that one's last byte, with -0.0 for its first x and 0.0 for the second; then a stage that is not 0, a stage that is none, and a table too short; then two pairs, which do for the same id again and not for another
 -- one, and one pair, which does not do for a second edge
 abbrev found : List (Reply Records)
 found =
@@ -58,7 +62,10 @@ found =
     ∷ answer [] (empty 0 (limits .nodes))
     ∷ answer (take 173 file) (empty 0 (limits .nodes))
     ∷ answer (set file 58 53) (empty 0 (limits .nodes))
+    ∷ answer (set file 62 16) (empty 0 (limits .nodes))
     ∷ answer (set file 62 2) (empty 0 (limits .nodes))
+    ∷ answer (skipped ++ file ++ skipped) (empty 0 (limits .nodes))
+    ∷ answer (skipped ++ file ++ take 5 skipped) (empty 0 (limits .nodes))
     ∷ answer (set (set (set file 17 128) 40 0) 41 0) (empty 0 (limits .nodes))
     ∷ answer file (empty 1 (limits .nodes))
     ∷ answer file (empty 5 (limits .nodes))
@@ -69,7 +76,7 @@ found =
     ∷ []
 
 abbrev expected : List (Reply Records)
-expected = taken 3 0 ∷ taken 0 0 ∷ taken 2 9 ∷ taken 1 10 ∷ taken 1 11 ∷ taken 0 2 ∷ refused 5 ∷ refused 7 ∷ refused 6 ∷ taken 3 0 ∷ taken 2 12 ∷ taken 1 12 ∷ []
+expected = taken 3 0 ∷ taken 0 0 ∷ taken 2 9 ∷ taken 1 10 ∷ taken 1 11 ∷ taken 3 0 ∷ taken 5 0 ∷ taken 4 9 ∷ taken 0 2 ∷ refused 5 ∷ refused 7 ∷ refused 6 ∷ taken 3 0 ∷ taken 2 12 ∷ taken 1 12 ∷ []
 
 pub as-answered : found ≡ expected
 unfolding addRecords

@@ -3,24 +3,21 @@
 ghost use mathlib.Core.Path.{_≡_};
 ghost use Rattle.adding.specs.Outcomes.{Ready};
 ghost use Rattle.rules.specs.Limits.{limits};
-ghost use Rattle.rules.specs.SegmentFile.{readAt};
 ghost use Rattle.tables.specs.Regions.{stateIn};
 ghost use Rattle.calls.specs.Replies.{left};
 ghost use Rattle.intake.specs.Taking.{takeFile};
 ghost use Rattle.intake.specs.Answers.{replyOf};
-ghost use Rattle.file_entry.specs.FileAdding.{lastNumber, recordsTaken};
+ghost use Rattle.file_entry.specs.FileAdding.{endNumber, recordsTaken};
 ghost use Rattle.file_entry.specs.Clause.{AddsRecords};
 ghost use Rattle.file_entry.specs.Replies.{fileReply};
 use calls::Checked;
 use calls::check_stage;
 use intake::TakeReply;
-use segment_file::RECORD_BYTES;
-use segment_file::Record;
 use tables::PlanarGraph;
 use tables::Refusal;
 
-// What is answered: how many records were taken and the number of the refusal that ended it, 0 where
-// the file did; or the refusal of the call, which added none.
+// What is answered: how many records were taken, those passed over among them, and the number of the
+// refusal that ended it, 0 where the file did; or the refusal of the call, which added none.
 pub enum FileReply {
     Taken(usize, u32),
     Refused(Refusal),
@@ -32,18 +29,13 @@ pub struct FileAdded {
     pub reply: FileReply,
 }
 
-// What ended the taking of records: the first bad one, or else what stands at the place behind the
-// last, which is the file's end or bytes too few for a record.
-fn end_number(bytes: &[u8], at: usize, reply: TakeReply) -> u32
-    ensures { λ r. ⌜ r ≡ lastNumber (replyOf reply) (readAt (now (bytes .entry)) at) ⌝ }
+// The number of what ended the taking of records, 0 where the file did.
+fn end_number(reply: TakeReply) -> u32
+    ensures { λ r. ⌜ r ≡ endNumber (replyOf reply) ⌝ }
 {
     match reply {
         TakeReply::Refused(number) => number,
-        TakeReply::Done => match segment_file::read_record(bytes, at) {
-            Record::Segment(_, _) => 0,
-            Record::Refused(why) => segment_file::file_number(why),
-            Record::End => 0,
-        },
+        TakeReply::Done => 0,
     }
 }
 
@@ -66,15 +58,15 @@ fn take_file(
     let after = taken.graph;
     let count = taken.count;
     let reply = taken.reply;
-    let number = end_number(bytes, RECORD_BYTES * count, reply);
     FileAdded {
         graph: after,
-        reply: FileReply::Taken(count, number),
+        reply: FileReply::Taken(count, end_number(reply)),
     }
 }
 
-// Numbers 6, 7 and 5 refuse and change nothing. Else records are added up to the file's end or to the
-// first that is refused: those before it stay, so that refusal is a part of the answer.
+// Numbers 6, 7 and 5 refuse and change nothing. Else segments are added, and other records passed over,
+// up to the file's end or to the first record that is refused: those before it stay, so that refusal is
+// a part of the answer.
 pub fn add_records(
     graph: PlanarGraph,
     bytes: &[u8],

@@ -2,6 +2,5 @@
 pub mod Records
 pub mod Turns
 pub mod Left
-pub mod Windows
 pub mod Parts
 pub mod Segments

@@ -1,147 +1,75 @@
--- Parts of a file: where a file is cut between two records, taking the first part and then the second comes to taking the whole.
-use Prim.Native.Nat.{ℕ, zero, suc, _+_, _*_, _/_, _<_, _≤_}
+-- Parts of a file: taking a part, and then what it left together with more bytes, comes to taking all of them.
+use Prim.Native.Nat.{ℕ, zero, suc, _+_, _<_, _≤_}
 use native.Mathlib.Omega.{arith}
-use native.Mathlib.Nat.{zero-add}
 use mathlib.Core.Path.{_≡_, refl, sym, ap, _∙_}
+use mathlib.Core.Bool.{Bool, true, false, cond}
 use mathlib.Core.List.{List, _++_}
-use lib.ListN.{length, length-append}
+use lib.ListN.{length, drop, length-drop}
+use lib.Seq.{drop-append-le, drop-drop}
 use Rattle.geometry.specs.Reply.{Reply, refused, success}
-use Rattle.lists.proofs.Counts.{by-lt}
+use Rattle.lists.proofs.Counts.{by-lt, by-eq}
 use Rattle.rules.specs.Limits.{Limits}
 use Rattle.rules.specs.State.{State}
 use Rattle.rules.specs.Adding.{Nothing}
-use Rattle.rules.specs.SegmentFile.{readAt}
-use Rattle.segment_file.proofs.Cases.{at-end, at-short}
-use Rattle.intake.specs.Taking.{takeRecord, Taking, orRest, takeFrom, takeRecords, endReply, closed, takeFile, andThen}
-use Rattle.intake.proofs.Turns.{from-none, from-one}
-use Rattle.intake.proofs.Left.{from-all, records-all}
-use Rattle.intake.proofs.Windows.{same-record, front-window, back-window}
+use Rattle.rules.specs.Records.{wrong, end, field}
+use Rattle.rules.specs.SegmentFile.{segmentNext}
+use Rattle.segment_file.proofs.Found.{segment-none, segment-short, segment-more}
+use Rattle.intake.specs.Taking.{Rest, onward, ended, takeRecord, Taking, halted, behind, follow, takeFile, waits, resumed}
+use Rattle.intake.proofs.Records.{Further, record-further, Final, record-final}
+use Rattle.intake.proofs.Turns.{file-step, file-halts, behind-none, behind-more}
 
--- with m more records counted
-abbrev shifted : ℕ → Taking → Taking
-shifted m t = record { reply = t .reply; count = m + t .count; state = t .state }
+module _ (l : Limits) (b : List ℕ) where
+  -- what a part comes to with the bytes b behind it
+  abbrev joined : List ℕ → Taking → Taking
+  joined a t = resumed t (λ u. takeFile l (drop (t .bytes) a ++ b) u)
 
--- no more
-shifted-none : (t : Taking) → shifted 0 t ≡ t
-shifted-none t =
-    let z : 0 + t .count ≡ t .count = omega arith in
-    λ i. record { reply = t .reply; count = z i; state = t .state }
+  -- bytes that end where a record could begin, or inside one
+  halted-joined : (a : List ℕ) (s : State) (r : Reply Nothing) → waits r ≡ true → takeFile l (a ++ b) s ≡ joined a (halted r s)
+  halted-joined a s r w = sym (behind-none (takeFile l (a ++ b) s)) ∙ sym (ap (λ t. cond t (behind 0 0 (takeFile l (a ++ b) s)) (halted r s)) w)
 
-or-shifted : (r : Reply Nothing) (m k : ℕ) (s : State) (t : Taking) → orRest r (m + k) s (shifted m t) ≡ shifted m (orRest r k s t)
-or-shifted (refused n) m k s t = refl
-or-shifted (success a) m k s t = refl
+  -- one record in front of a part
+  one-joined : (a : List ℕ) (size : ℕ) (t : Taking) → behind 1 size (joined (drop size a) t) ≡ joined a (behind 1 size t)
+  one-joined a size t = go (waits (t .reply))
+    where
+      go : (w : Bool) → behind 1 size (cond w (behind (t .count) (t .bytes) (takeFile l (drop (t .bytes) (drop size a) ++ b) (t .state))) t)
+          ≡ cond w (behind (1 + t .count) (size + t .bytes) (takeFile l (drop (size + t .bytes) a ++ b) (t .state))) (behind 1 size t)
+      go true =
+          sym (behind-more 1 (t .count) size (t .bytes) _)
+          ∙ ap (λ z. behind (1 + t .count) (size + t .bytes) (takeFile l (z ++ b) (t .state))) (drop-drop (t .bytes) size a)
+      go false = refl
 
--- the same records m places on
-from-shifted : (l : Limits) (x y : List ℕ) (m n k : ℕ) (s : State)
-    → ((j : ℕ) → k ≤ j → j < k + n → (g : State) → takeRecord l (readAt x (58 * (m + j))) g ≡ takeRecord l (readAt y (58 * j)) g)
-    → takeFrom l x n (m + k) s ≡ shifted m (takeFrom l y n k s)
-from-shifted l x y m zero k s same = from-none l x (m + k) s ∙ ap (shifted m) (sym (from-none l y k s))
-from-shifted l x y m (suc n) k s same =
-    let o = takeRecord l (readAt y (58 * k)) s in
-    let z : suc (m + k) ≡ m + suc k = omega arith in
-    from-one l x n (m + k) s
-    ∙ ap (λ p. orRest (p .reply) (m + k) s (takeFrom l x n (suc (m + k)) (p .state))) (same k (omega arith) (omega arith) s)
-    ∙ ap (λ j. orRest (o .reply) (m + k) s (takeFrom l x n j (o .state))) z
-    ∙ ap (orRest (o .reply) (m + k) s) (from-shifted l x y m n (suc k) (o .state) (λ j a b. same j (omega arith) (omega arith)))
-    ∙ or-shifted (o .reply) m k s (takeFrom l y n (suc k) (o .state))
-    ∙ ap (shifted m) (sym (from-one l y n k s))
+  -- a record that is there to its end
+  rest-joined : (a : List ℕ) (r : Rest) (s : State) → Further a r → Final r
+      → ((size : ℕ) → 6 ≤ size → size ≤ length a → takeFile l (drop size a ++ b) s ≡ joined (drop size a) (takeFile l (drop size a) s))
+      → follow r s (λ size u. takeFile l (drop size (a ++ b)) u) ≡ joined a (follow r s (λ size u. takeFile l (drop size a) u))
+  rest-joined a (onward size) s h f more =
+      ap (λ z. behind 1 size (takeFile l z s)) (drop-append-le size a b (h .1))
+      ∙ ap (behind 1 size) (more size (h .0) (h .1))
+      ∙ one-joined a size (takeFile l (drop size a) s)
+  rest-joined a (ended r) s h f more = sym (ap (λ w. cond w (behind 0 0 (takeFile l (a ++ b) s)) (halted r s)) f)
 
--- a refusal in front goes before one behind
-or-or : (r : Reply Nothing) (k : ℕ) (s : State) (t : Taking) (f : State → Taking)
-    → orRest r k s (orRest (t .reply) (t .count) (t .state) (f (t .state))) ≡ (let u = orRest r k s t in orRest (u .reply) (u .count) (u .state) (f (u .state)))
-or-or (refused n) k s t f = refl
-or-or (success a) k s t f = refl
+  whole-joined : (a : List ℕ) (s : State) → 4 + field a 0 4 ≤ length a
+      → ((size : ℕ) (u : State) → 6 ≤ size → size ≤ length a → takeFile l (drop size a ++ b) u ≡ joined (drop size a) (takeFile l (drop size a) u))
+      → takeFile l (a ++ b) s ≡ joined a (takeFile l a s)
+  whole-joined a s there more =
+      let t = takeRecord l (segmentNext a) s in
+      file-step l (a ++ b) s
+      ∙ ap (λ f. let u = takeRecord l f s in follow (u .rest) (u .state) (λ size v. takeFile l (drop size (a ++ b)) v)) (segment-more a there b)
+      ∙ rest-joined a (t .rest) (t .state) (record-further l a s) (record-final l a s there) (λ size h k. more size (t .state) h k)
+      ∙ ap (joined a) (sym (file-step l a s))
 
--- some records and then more
-from-split : (l : Limits) (bytes : List ℕ) (n p k : ℕ) (s : State)
-    → (let t = takeFrom l bytes n k s in takeFrom l bytes (n + p) k s ≡ orRest (t .reply) (t .count) (t .state) (takeFrom l bytes p (k + n) (t .state)))
-from-split l bytes zero p k s =
-    let y : 0 + p ≡ p = omega arith in
-    let z : k ≡ k + 0 = omega arith in
-    ap (λ n. takeFrom l bytes n k s) y
-    ∙ ap (λ j. takeFrom l bytes p j s) z
-    ∙ ap (λ t. orRest (t .reply) (t .count) (t .state) (takeFrom l bytes p (k + 0) (t .state))) (sym (from-none l bytes k s))
-from-split l bytes (suc n) p k s =
-    let o = takeRecord l (readAt bytes (58 * k)) s in
-    let t = takeFrom l bytes n (suc k) (o .state) in
-    let y : suc n + p ≡ suc (n + p) = omega arith in
-    let z : suc k + n ≡ k + suc n = omega arith in
-    ap (λ j. takeFrom l bytes j k s) y
-    ∙ from-one l bytes (n + p) k s
-    ∙ ap (orRest (o .reply) k s) (from-split l bytes n p (suc k) (o .state))
-    ∙ ap (λ j. orRest (o .reply) k s (orRest (t .reply) (t .count) (t .state) (takeFrom l bytes p j (t .state)))) z
-    ∙ or-or (o .reply) k s t (takeFrom l bytes p (k + suc n))
-    ∙ ap (λ u. orRest (u .reply) (u .count) (u .state) (takeFrom l bytes p (k + suc n) (u .state))) (sym (from-one l bytes n k s))
+  -- bytes too few for a record
+  few-joined : (a : List ℕ) (s : State) (r : Reply Nothing) → takeFile l a s ≡ halted r s → waits r ≡ true → takeFile l (a ++ b) s ≡ joined a (takeFile l a s)
+  few-joined a s r e w = halted-joined a s r w ∙ ap (joined a) (sym e)
 
--- the count of a part that was not refused
-or-counted : (t : Taking) (m : ℕ) (u : Taking) → ((a : Nothing) → t .reply ≡ success a → t .count ≡ m)
-    → orRest (t .reply) (t .count) (t .state) (shifted m u) ≡ orRest (t .reply) (t .count) (t .state) (shifted (t .count) u)
-or-counted t m u all = go (t .reply) refl
-  where
-    go : (r : Reply Nothing) → t .reply ≡ r → orRest r (t .count) (t .state) (shifted m u) ≡ orRest r (t .count) (t .state) (shifted (t .count) u)
-    go (refused n) e = refl
-    go (success a) e = ap (λ j. shifted j u) (sym (all a e))
+  joined-on : (n : ℕ) (a : List ℕ) (s : State) → length a < n → takeFile l (a ++ b) s ≡ joined a (takeFile l a s)
+  joined-on zero a s h = absurd (omega arith)
+  joined-on (suc n) a s h =
+      by-lt (length a) (4 + field a 0 4)
+      (λ few. by-eq (length a) 0 (λ none. few-joined a s (success (record {})) (file-halts l a s end (success (record {})) (segment-none a none) refl) refl)
+      (λ any. few-joined a s (refused 9) (file-halts l a s (wrong 9) (refused 9) (segment-short a (omega arith) few) refl) refl))
+      (λ there. whole-joined a s there (λ size u k m. joined-on n (drop size a) u (omega (arith, length-drop size a))))
 
--- the end of the file after a part, by the two answers
-closed-then : (x y : List ℕ) (r : Reply Nothing) (k : ℕ) (s : State) (v : Reply Nothing) (n : ℕ) (z : State)
-    → ((a b : Nothing) → r ≡ success a → v ≡ success b → readAt x (58 * (k + n)) ≡ readAt y (58 * n))
-    → closed x (orRest r k s (record { reply = v; count = k + n; state = z })) ≡ orRest r k s (shifted k (closed y (record { reply = v; count = n; state = z })))
-closed-then x y (refused j) k s v n z same = refl
-closed-then x y (success a) k s (refused j) n z same = refl
-closed-then x y (success a) k s (success b) n z same =
-    ap (λ r. record { reply = endReply r; count = k + n; state = z }) (same a b refl refl)
-
-module _ (l : Limits) (a b : List ℕ) (m : ℕ) (cut : length a ≡ 58 * m) where
-  -- a record of the first part
-  front : (j : ℕ) → j < m → (g : State) → takeRecord l (readAt (a ++ b) (58 * j)) g ≡ takeRecord l (readAt a (58 * j)) g
-  front j h g =
-      let z : 58 * j + 58 ≤ length a = omega arith in
-      same-record (a ++ b) a (58 * j) (58 * j) (omega (arith, length-append a b)) z (front-window a b (58 * j) z) l g
-
-  -- a record of the second
-  back : (j : ℕ) → j < length b / 58 → (g : State) → takeRecord l (readAt (a ++ b) (58 * (m + j))) g ≡ takeRecord l (readAt b (58 * j)) g
-  back j h g =
-      let z : 58 * (m + j) ≡ length a + 58 * j = omega arith in
-      ap (λ p. takeRecord l (readAt (a ++ b) p) g) z
-      ∙ same-record (a ++ b) b (length a + 58 * j) (58 * j) (omega (arith, length-append a b)) (omega arith) (back-window a b (58 * j)) l g
-
-  -- PARTS DO NOT MATTER: the records of both parts are those of the first, and then those of the second
-  pub in-parts : (s : State) → takeRecords l (a ++ b) s ≡ andThen (takeRecords l a s) (takeRecords l b)
-  in-parts s =
-      let q : ℕ = length b / 58 in
-      let all : length (a ++ b) / 58 ≡ m + q = omega (arith, length-append a b) in
-      let first : length a / 58 ≡ m = omega arith in
-      let t = takeFrom l a m 0 s in
-      let u = takeFrom l b q 0 (t .state) in
-      let one : takeFrom l (a ++ b) m 0 s ≡ t = from-shifted l (a ++ b) a 0 m 0 s (λ j c h g. ap (λ i. takeRecord l (readAt (a ++ b) (58 * i)) g) (zero-add j) ∙ front j (omega arith) g) ∙ shifted-none t in
-      let two : takeFrom l (a ++ b) q m (t .state) ≡ shifted m u =
-      (let z : m ≡ m + 0 = omega arith in ap (λ j. takeFrom l (a ++ b) q j (t .state)) z) ∙ from-shifted l (a ++ b) b m q 0 (t .state) (λ j c h g. back j (omega arith) g) in
-      ap (λ n. takeFrom l (a ++ b) n 0 s) all
-      ∙ from-split l (a ++ b) m q 0 s
-      ∙ ap (λ j. let x = takeFrom l (a ++ b) m 0 s in orRest (x .reply) (x .count) (x .state) (takeFrom l (a ++ b) q j (x .state))) (zero-add m)
-      ∙ ap (λ x. orRest (x .reply) (x .count) (x .state) (takeFrom l (a ++ b) q m (x .state))) one
-      ∙ ap (orRest (t .reply) (t .count) (t .state)) two
-      ∙ or-counted t m u (λ x e. from-all l a m 0 s x e ∙ zero-add m)
-      ∙ ap (λ n. andThen (takeFrom l a n 0 s) (takeRecords l b)) (sym first)
-
-  -- ---- the end of the file
-
-  -- fewer bytes than a record has stand behind the second part's records: both ways there is the end, or 9
-  rest-same : (let q = length b / 58 in readAt (a ++ b) (58 * (m + q)) ≡ readAt b (58 * q))
-  rest-same =
-      let q : ℕ = length b / 58 in
-      let size = length-append a b in
-      by-lt (58 * q) (length b)
-      (λ h. sym (at-short (a ++ b) (58 * (m + q)) (omega (arith, size)) (omega (arith, size))) ∙ at-short b (58 * q) h (omega arith))
-      (λ h. sym (at-end (a ++ b) (58 * (m + q)) (omega (arith, size))) ∙ at-end b (58 * q) h)
-
-  -- the same of a whole file: parts are taken as they come, and the last one with what is left at the end
-  pub file-in-parts : (s : State) → takeFile l (a ++ b) s ≡ andThen (takeRecords l a s) (takeFile l b)
-  file-in-parts s =
-      let t = takeRecords l a s in
-      let u = takeRecords l b (t .state) in
-      let first : length a / 58 ≡ m = omega arith in
-      ap (closed (a ++ b)) (in-parts s)
-      ∙ closed-then (a ++ b) b (t .reply) (t .count) (t .state) (u .reply) (u .count) (u .state)
-      (λ x y e f. (λ i. readAt (a ++ b) (58 * ((records-all l a s x e ∙ first) i + records-all l b (t .state) y f i)))
-      ∙ rest-same ∙ ap (λ q. readAt b (58 * q)) (sym (records-all l b (t .state) y f)))
+  -- PARTS DO NOT MATTER: a part, and then what it left with the bytes behind it, come to the whole; what is refused for good stays so
+  pub in-parts : (a : List ℕ) (s : State) → takeFile l (a ++ b) s ≡ resumed (takeFile l a s) (λ u. takeFile l (drop (takeFile l a s .bytes) a ++ b) u)
+  in-parts a s = joined-on (suc (length a)) a s (omega arith)

@@ -1,88 +1,87 @@
--- A file is its segments added one after another: what `takeFile` leaves and counts is what `filed` leaves and accepts.
-use Prim.Native.Nat.{ℕ, zero, suc, _+_, _*_, _/_, _≤_}
+-- A file is its segments added one after another: what `takeFile` leaves is what `filed` leaves, and of the records that it counts as many are
+-- segments as `filed` accepts.
+use Prim.Native.Nat.{ℕ, zero, suc, _+_}
 use native.Mathlib.Omega.{arith}
-use mathlib.Core.Path.{_≡_, refl, sym, subst, _∙_}
-use mathlib.Core.Bool.{Bool, true, false}
+use mathlib.Core.Path.{_≡_, refl, sym, ap, subst, _∙_}
+use mathlib.Core.Bool.{true}
 use mathlib.Core.List.{List, []}
-use lib.Dec.{eqb}
-use lib.ListN.{length}
+use lib.ListN.{length, drop}
 use Rattle.geometry.specs.Reply.{Reply, refused, success}
 use Rattle.geometry.specs.declared.Line3D.{Line3D}
 use Rattle.rules.specs.Limits.{Limits}
 use Rattle.rules.specs.State.{State}
 use Rattle.rules.specs.Adding.{Nothing, Added, add}
-use Rattle.rules.specs.SegmentFile.{Read, segment, wrong, end, field, pickRead, readAt}
-use Rattle.rules.specs.Filing.{Filed, orFiled, filed, orSegments, segmentsFrom, fileSegments}
+use Rattle.rules.specs.Records.{Found, taken, passed, wrong, end, Reading, readOn, readFile}
+use Rattle.rules.specs.Records as records
+use Rattle.rules.specs.SegmentFile.{segmentNext}
+use Rattle.rules.specs.Filing.{Filed, orFiled, filed, fileSegments, segmentsAmong}
+use Rattle.rules.specs.Claim.{isRefused, call}
+use Rattle.rules.specs.Sketch.{adding}
 use Rattle.rules.proofs.Filing.{filed-none, filed-one}
-use Rattle.intake.specs.Taking.{alone, takeRecord, Taking, orRest, takeFrom, takeRecords, closed, takeFile}
-use Rattle.intake.proofs.Turns.{from-none, from-one}
-use Rattle.intake.proofs.Windows.{window, read-window}
+use Rattle.rules.proofs.Refused.{refused-same}
+use Rattle.intake.specs.Taking.{afterAdding, takeRecord, Taking, halted, follow, takeOn, takeFile}
 
--- ---- where a whole record stands the file has not ended
+-- a refused addition leaves the state as it was
+add-keeps : (l : Limits) (g : Line3D) (s : State) → isRefused (add l g s .reply) ≡ true → add l g s .state ≡ s
+unfolding call
+add-keeps l g s e = refused-same l s (adding g) e
 
--- what a place holds is not the end
-abbrev Begun : Read → Type 0
-Begun (segment line next) = Unit {0}
-Begun (wrong n) = Unit {0}
-Begun end = ⊥
+-- taking left what adding the segments left, and of the records that it counts as many are segments as were accepted
+record Same (among : ℕ → ℕ) (t : Taking) (f : Filed) : Type 0 where
+  state : t .state ≡ f .state
+  accepted : f .accepted ≡ among (t .count)
 
--- either of two
-begun-either : (b : Bool) (x y : Read) → Begun x → Begun y → Begun (pickRead b x y)
-begun-either true x y p q = p
-begun-either false x y p q = q
+-- ---- one record, and what follows it
 
-whole-begun : (bytes : List ℕ) (at : ℕ) → at + 58 ≤ length bytes → Begun (readAt bytes at)
-whole-begun bytes at room =
-    let w = window bytes at in
-    subst Begun (sym (read-window bytes at room))
-    (begun-either (eqb (field w 0 4) 54) _ _ (begun-either (eqb (field w 4 2) 1) _ _ tt tt) tt)
+-- how many segments stand among the first k records, by what the first is and what is read behind it
+abbrev among : Found Line3D → (ℕ → ℕ → Reading Line3D) → ℕ → ℕ
+among f rest zero = 0
+among f rest (suc k) = length (records.onward f (λ size. rest size k) .holds)
+
+module _ (l : Limits) (s : State) (more : ℕ → State → Taking) (rest : ℕ → ℕ → Reading Line3D) (all : ℕ → Reading Line3D)
+    (same : (size : ℕ) (u : State) → Same (λ k. length (rest size k .holds)) (more size u) (filed l (all size .holds) u)) where
+  -- no segment
+  same-none : (r : Reply Nothing) (f : Found Line3D) → Same (among f rest) (halted r s) (filed l [] s)
+  same-none r f = subst (Same (among f rest) (halted r s)) (sym (filed-none l s)) (record { state = refl; accepted = refl })
+
+  -- by an addition's reply, and the state that it left
+  same-added : (g : Line3D) (size : ℕ) (r : Reply Added) (u : State) → (isRefused r ≡ true → u ≡ s)
+      → Same (among (taken g size) rest) (follow (afterAdding r size) u more) (orFiled r g s (filed l (all size .holds) u))
+  same-added g size (refused n) u keeps = record { state = keeps refl; accepted = refl }
+  same-added g size (success a) u keeps =
+      let e = same size u in
+      let c : suc (more size u .count) ≡ 1 + more size u .count = omega arith in
+      record { state = e .state; accepted = ap suc (e .accepted) ∙ ap (among (taken g size) rest) c }
+
+  same-found : (f : Found Line3D) → (let t = takeRecord l f s in Same (among f rest) (follow (t .rest) (t .state) more) (filed l (records.onward f all .holds) s))
+  same-found (taken g size) =
+      let o = add l g s in
+      subst (Same (among (taken g size) rest) (follow (afterAdding (o .reply) size) (o .state) more)) (sym (filed-one l g (all size .holds) s))
+      (same-added g size (o .reply) (o .state) (add-keeps l g s))
+  same-found (passed size) =
+      let e = same size s in
+      let c : suc (more size s .count) ≡ 1 + more size s .count = omega arith in
+      record { state = e .state; accepted = e .accepted ∙ ap (among (passed size) rest) c }
+  same-found (wrong n) = same-none (refused n) (wrong n)
+  same-found end = same-none (success (record {})) end
 
 -- ---- records one after another
 
--- taking that began with record k left what adding the segments left, and counted those that were accepted
-record Same (k : ℕ) (t : Taking) (f : Filed) : Type 0 where
-  state : t .state ≡ f .state
-  count : t .count ≡ k + f .accepted
+-- that is how many there are among a file's
+among-file : (bytes : List ℕ) (k : ℕ) → among (segmentNext bytes) (λ size k. readOn segmentNext k (drop size bytes)) k ≡ segmentsAmong bytes k
+among-file bytes zero = refl
+among-file bytes (suc k) = refl
 
--- by an addition's reply
-same-reply : (r : Reply Added) (k : ℕ) (g : Line3D) (s : State) (t : Taking) (f : Filed) → Same (suc k) t f → Same k (orRest (alone r) k s t) (orFiled r g s f)
-same-reply (refused n) k g s t f e = record { state = refl; count = omega arith }
-same-reply (success a) k g s t f e = record { state = e .state; count = omega (arith, e .count) }
+same-on : (l : Limits) (fuel : ℕ) (bytes : List ℕ) (s : State) → Same (segmentsAmong bytes) (takeOn l fuel bytes s) (filed l (readOn segmentNext fuel bytes .holds) s)
+unfolding takeOn
+same-on l zero bytes s = subst (Same (segmentsAmong bytes) (halted (success (record {})) s)) (sym (filed-none l s)) (record { state = refl; accepted = refl })
+same-on l (suc fuel) bytes s =
+    let e = same-found l s (λ size u. takeOn l fuel (drop size bytes) u) (λ size k. readOn segmentNext k (drop size bytes)) (λ size. readOn segmentNext fuel (drop size bytes))
+    (λ size u. same-on l fuel (drop size bytes) u) (segmentNext bytes) in
+    record { state = e .state; accepted = e .accepted ∙ among-file bytes (takeOn l (suc fuel) bytes s .count) }
 
--- no segment
-same-none : (l : Limits) (r : Reply Nothing) (k : ℕ) (s : State) → Same k (record { reply = r; count = k; state = s }) (filed l [] s)
-same-none l r k s = subst (Same k _) (sym (filed-none l s)) (record { state = refl; count = omega arith })
-
--- a record, and what follows it
-same-record : (l : Limits) (r : Read) → Begun r → (k : ℕ) (s : State) (rest : State → Taking) (gs : List Line3D) → ((t : State) → Same (suc k) (rest t) (filed l gs t))
-    → (let o = takeRecord l r s in Same k (orRest (o .reply) k s (rest (o .state))) (filed l (orSegments r gs) s))
-same-record l (segment line next) w k s rest gs more =
-    let o = add l line s in
-    subst (Same k _) (sym (filed-one l line gs s)) (same-reply (o .reply) k line s (rest (o .state)) (filed l gs (o .state)) (more (o .state)))
-same-record l (wrong n) w k s rest gs more = same-none l (refused n) k s
-same-record l end w k s rest gs more = absurd w
-
-same-from : (l : Limits) (bytes : List ℕ) (n k : ℕ) (s : State) → k + n ≤ length bytes / 58 → Same k (takeFrom l bytes n k s) (filed l (segmentsFrom bytes n k) s)
-unfolding segmentsFrom
-same-from l bytes zero k s room = subst (λ t. Same k t (filed l [] s)) (sym (from-none l bytes k s)) (same-none l (success (record {})) k s)
-same-from l bytes (suc n) k s room =
-    subst (λ t. Same k t (filed l (segmentsFrom bytes (suc n) k) s)) (sym (from-one l bytes n k s))
-    (same-record l (readAt bytes (58 * k)) (whole-begun bytes (58 * k) (omega arith)) k s (takeFrom l bytes n (suc k)) (segmentsFrom bytes n (suc k))
-    (λ t. same-from l bytes n (suc k) t (omega arith)))
-
--- ---- a file
-
--- the end of the file changes nothing
-closed-same : (bytes : List ℕ) (r : Reply Nothing) (k : ℕ) (s : State)
-    → (let t = closed bytes (record { reply = r; count = k; state = s }) in (t .state ≡ s) × (t .count ≡ k))
-closed-same bytes (refused n) k s = (refl, refl)
-closed-same bytes (success a) k s = (refl, refl)
-
--- WHAT A FILE LEAVES, and how many records it counts
+-- WHAT A FILE LEAVES, and how many of the records that it counts are segments
 pub file-filed : (l : Limits) (bytes : List ℕ) (s : State)
-    → (let t = takeFile l bytes s in let f = filed l (fileSegments bytes) s in (t .state ≡ f .state) × (t .count ≡ f .accepted))
-file-filed l bytes s =
-    let t = takeRecords l bytes s in
-    let c = closed-same bytes (t .reply) (t .count) (t .state) in
-    let e = same-from l bytes (length bytes / 58) 0 s (omega arith) in
-    (c .0 ∙ e .state, omega (arith, c .1, e .count))
+    → (let t = takeFile l bytes s in let f = filed l (fileSegments bytes) s in (t .state ≡ f .state) × (f .accepted ≡ segmentsAmong bytes (t .count)))
+unfolding readFile
+file-filed l bytes s = let e = same-on l (suc (length bytes)) bytes s in (e .state, e .accepted)

@@ -1,75 +1,84 @@
--- Taking the records of a segment file into a graph, one after another. The first bad record decides.
-use Prim.Native.Nat.{ℕ, zero, suc, _+_, _*_, _/_}
+-- Taking the records of a segment file into a graph, one after another: segments are added, other records are passed over, and the first bad
+-- record decides.
+use Prim.Native.Nat.{ℕ, zero, suc, _+_}
+use mathlib.Core.Bool.{Bool, true, cond}
 use mathlib.Core.List.{List}
-use lib.ListN.{length}
+use lib.Dec.{eqb}
+use lib.ListN.{length, drop}
 use Rattle.geometry.specs.Reply.{Reply, refused, success}
+use Rattle.geometry.specs.declared.Line3D.{Line3D}
 use Rattle.rules.specs.Limits.{Limits}
 use Rattle.rules.specs.State.{State}
-use Rattle.rules.specs.Adding.{Outcome, Nothing, Added, add}
-use Rattle.rules.specs.SegmentFile.{Read, segment, wrong, end, readAt}
+use Rattle.rules.specs.Adding.{Nothing, Added, add}
+use Rattle.rules.specs.Records.{Found, taken, passed, wrong, end}
+use Rattle.rules.specs.SegmentFile.{segmentNext}
 
 -- ---- one record
 
--- success without its values
-abbrev pub alone : {A : Type 0} → Reply A → Reply Nothing
-alone (refused n) = refused n
-alone (success a) = success (record {})
+-- what follows a record: the next one, behind so many bytes, or nothing, with the reply to all of them
+pub data Rest : Type 0 where
+  onward : ℕ → Rest
+  ended : Reply Nothing → Rest
 
--- what an addition leaves, of its answer only whether it was refused
-abbrev pub taken : Outcome Added Nothing → Outcome Nothing Nothing
-taken o = record { reply = alone (o .reply); state = o .state; lists = record {} }
+-- that, and the state that the record left
+pub record Turned : Type 0 where
+  pub rest : Rest
+  pub state : State
 
--- What a record answers and leaves: its segment is added; a bad one changes nothing, and neither does the end.
-abbrev pub takeRecord : Limits → Read → State → Outcome Nothing Nothing
-takeRecord l (segment line next) s = taken (add l line s)
-takeRecord l (wrong n) s = record { reply = refused n; state = s; lists = record {} }
-takeRecord l end s = record { reply = success (record {}); state = s; lists = record {} }
+-- a segment that is added takes its record's bytes; a refusal ends the taking
+abbrev pub afterAdding : Reply Added → ℕ → Rest
+afterAdding (refused n) size = ended (refused n)
+afterAdding (success a) size = onward size
+
+-- a segment is added, another record is passed over; a bad one ends the taking, and so does the file's end
+abbrev pub takeRecord : Limits → Found Line3D → State → Turned
+takeRecord l (taken line size) s = let o = add l line s in record { rest = afterAdding (o .reply) size; state = o .state }
+takeRecord l (passed size) s = record { rest = onward size; state = s }
+takeRecord l (wrong n) s = record { rest = ended (refused n); state = s }
+takeRecord l end s = record { rest = ended (success (record {})); state = s }
 
 -- ---- records one after another
 
--- what taking records comes to: success or the first refusal, how many records were taken before it, and the state that these left
+-- what taking records comes to: success or the first refusal, how many records were taken before it (those passed over among them) and how many
+-- bytes these have, and the state that they left
 pub record Taking : Type 0 where
   pub reply : Reply Nothing
   pub count : ℕ
+  pub bytes : ℕ
   pub state : State
 
--- a refusal after k records ends it and leaves the state that they left; else the rest follows
-abbrev pub orRest : Reply Nothing → ℕ → State → Taking → Taking
-orRest (refused n) k s rest = record { reply = refused n; count = k; state = s }
-orRest (success a) k s rest = rest
+-- nothing is taken
+abbrev pub halted : Reply Nothing → State → Taking
+halted r s = record { reply = r; count = 0; bytes = 0; state = s }
 
--- n records from record k on; record k stands at place 58 k
-unfoldable pub takeFrom : Limits → List ℕ → ℕ → ℕ → State → Taking
-takeFrom l bytes zero k s = record { reply = success (record {}); count = k; state = s }
-takeFrom l bytes (suc n) k s =
-    let o = takeRecord l (readAt bytes (58 * k)) s in
-    orRest (o .reply) k s (takeFrom l bytes n (suc k) (o .state))
+-- so many records of so many bytes go before the others
+abbrev pub behind : ℕ → ℕ → Taking → Taking
+behind count bytes t = record { reply = t .reply; count = count + t .count; bytes = bytes + t .bytes; state = t .state }
 
--- all whole records of the bytes; what is left behind them, fewer than 58, is not looked at
-abbrev pub takeRecords : Limits → List ℕ → State → Taking
-takeRecords l bytes s = takeFrom l bytes (length bytes / 58) 0 s
+-- what follows a record, with the taking of what is left behind so many bytes
+abbrev pub follow : Rest → State → (ℕ → State → Taking) → Taking
+follow (onward size) s more = behind 1 size (more size s)
+follow (ended r) s more = halted r s
 
--- ---- a whole file
+-- record by record to the end or the first refusal; fuel bounds how many
+unfoldable pub takeOn : Limits → ℕ → List ℕ → State → Taking
+unfolding segmentNext add
+takeOn l zero bytes s = halted (success (record {})) s
+takeOn l (suc fuel) bytes s =
+    let t = takeRecord l (segmentNext bytes) s in
+    follow (t .rest) (t .state) (λ size u. takeOn l fuel (drop size bytes) u)
 
--- the answer to what stands behind the whole records: the end, or bytes too few for a record, which get 9
-abbrev pub endReply : Read → Reply Nothing
-endReply (segment line next) = success (record {})
-endReply (wrong n) = refused n
-endReply end = success (record {})
-
--- all whole records were taken, and then the file ends
-abbrev pub closed : List ℕ → Taking → Taking
-closed bytes t =
-    orRest (t .reply) (t .count) (t .state) (record { reply = endReply (readAt bytes (58 * t .count)); count = t .count; state = t .state })
-
--- a file from its first byte to its end
+-- a file from its first byte to its end: a record takes a byte at least, so its bytes are fuel enough
 abbrev pub takeFile : Limits → List ℕ → State → Taking
-takeFile l bytes s = closed bytes (takeRecords l bytes s)
+takeFile l bytes s = takeOn l (suc (length bytes)) bytes s
 
 -- ---- parts of a file
 
--- what follows a part: where it was refused nothing, else what the rest comes to from its state on, with its records counted
-abbrev pub andThen : Taking → (State → Taking) → Taking
-andThen t rest =
-    let u = rest (t .state) in
-    orRest (t .reply) (t .count) (t .state) (record { reply = u .reply; count = t .count + u .count; state = u .state })
+-- more bytes can go on from here: the bytes ended behind a record, or inside one, which gets 9 until the others are there
+abbrev pub waits : Reply Nothing → Bool
+waits (refused n) = eqb n 9
+waits (success none) = true
+
+-- what a part comes to together with what follows it
+abbrev pub resumed : Taking → (State → Taking) → Taking
+resumed t more = cond (waits (t .reply)) (behind (t .count) (t .bytes) (more (t .state))) t

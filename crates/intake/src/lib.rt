@@ -5,13 +5,10 @@
 ghost use mathlib.Core.Path.{_≡_};
 ghost use Rattle.adding.specs.Outcomes.{Ready};
 ghost use Rattle.rules.specs.Limits.{limits};
-ghost use Rattle.rules.specs.SegmentFile.{readAt};
 ghost use Rattle.tables.specs.Regions.{stateIn};
-ghost use Rattle.intake.specs.Taking.{takeRecords, endReply};
-ghost use Rattle.intake.specs.Answers.{replyOf, takingOf};
+ghost use Rattle.intake.specs.Taking.{takeFile};
+ghost use Rattle.intake.specs.Answers.{takingOf};
 use chained::take_chained;
-use segment_file::Record;
-use segment_file::file_number;
 use tables::PlanarGraph;
 
 mod chained;
@@ -21,39 +18,36 @@ const NODE_CHAINS: usize = lookup::NODE_HEADS + tables::MAX_NODES;
 
 const HALF_CHAINS: usize = lookup::HALF_HEADS + 2 * tables::MAX_EDGES;
 
-// What taking answers: all was taken, or document 01's number of the first refusal.
+// What taking answers: all was taken, or the documents' number of the first refusal.
 pub enum TakeReply {
     Done,
     Refused(u32),
 }
 
-// The counts and the stage after one record, its answer, and the lowest free place for a line id.
+// What follows a record: the next one, behind so many bytes, or nothing, with the answer to all of them.
+pub enum Next {
+    Onward(usize),
+    Ended(TakeReply),
+}
+
+// The counts and the stage after one record, what follows it, and the lowest free place for a line id.
 pub struct Turn {
     pub graph: PlanarGraph,
-    pub reply: TakeReply,
+    pub next: Next,
     pub free: u16,
 }
 
-// The same after many, and how many were taken: where one is refused, that is its number from 0.
+// The counts and the stage after many, how many were taken or passed over, which is the number from 0 of
+// one that is refused, and how many bytes these have.
 pub struct Taken {
     pub graph: PlanarGraph,
     pub count: usize,
+    pub bytes: usize,
     pub reply: TakeReply,
 }
 
-// What is left where the input ends: nothing, or bytes too few for a record.
-pub fn end_reply(bytes: &[u8]) -> TakeReply
-    ensures { λ r. ⌜ replyOf r ≡ endReply (readAt (now (bytes .entry)) 0) ⌝ }
-{
-    match segment_file::read_record(bytes, 0) {
-        Record::Segment(_, _) => TakeReply::Done,
-        Record::Refused(why) => TakeReply::Refused(file_number(why)),
-        Record::End => TakeReply::Done,
-    }
-}
-
-// All whole records of the bytes, one after another, up to the first that is refused. What is left
-// behind the last whole record, fewer than 58 bytes, is not looked at.
+// All records of the bytes, one after another, to their end or to the first that is refused. Where the
+// bytes end inside a record that is 9; a reader of a stream then goes on from `bytes` with more.
 pub fn take_records(
     graph: PlanarGraph,
     bytes: &[u8],
@@ -65,7 +59,7 @@ pub fn take_records(
 ) -> Taken
     requires { ⌜ Ready limits (stateIn limits graph (now floats) (now numbers) (now stars) (now marks) (now ids)) ⌝ }
     ensures { λ r. ⌜ takingOf r (now (floats .exit)) (now (numbers .exit)) (now (stars .exit)) (now (marks .exit)) (now (ids .exit))
-        ≡ takeRecords limits (now (bytes .entry)) (stateIn limits graph (now (floats .entry)) (now (numbers .entry)) (now (stars .entry)) (now (marks .entry)) (now (ids .entry))) ⌝ }
+        ≡ takeFile limits (now (bytes .entry)) (stateIn limits graph (now (floats .entry)) (now (numbers .entry)) (now (stars .entry)) (now (marks .entry)) (now (ids .entry))) ⌝ }
 {
     let used = placing::mark_lists(graph.edge_count, numbers);
     let free = line_ids::next_free(0, &used);

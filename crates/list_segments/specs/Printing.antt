@@ -4,7 +4,7 @@ use mathlib.Core.Path.{_≡_}
 use mathlib.Core.List.{List}
 use lib.ListN.{length}
 use Rattle.rules.specs.Limits.{limits}
-use Rattle.listing_text.specs.Buffer.{Put}
+use Rattle.lists.specs.Buffer.{Put}
 use Rattle.byte_listing.specs.File.{fileText}
 use Rattle.list_segments.specs.declared.Printed.{Printed}
 use Rattle.list_segments.specs.declared.Printed.the-variants.{Text, Failed}

@@ -56,7 +56,7 @@ fn put_input(input: i32, out: &mut [u8]) -> Printed
     let after = read.graph;
     let reply = read.reply;
     let source = read.source;
-    if segment_reading::is_failed(source) {
+    if buffered_input::is_failed(source) {
         return Printed::Failed;
     }
     let size = byte_listing::put_taken(

@@ -1,4 +1,2 @@
--- Laws on areas, on the lists that ring extraction writes, and on the lines.
+-- Laws on the lines.
 pub mod RingTexts
-pub mod Extracted
-pub mod Steps

@@ -2,17 +2,17 @@
 use Prim.Native.Nat.{ℕ, zero, suc, _+_, _*_, _^_, _<_, _≤_}
 use native.Mathlib.Omega.{arith}
 use native.Mathlib.Numerals.{add-one}
-use mathlib.Core.Path.{_≡_, sym, ap, subst, _∙_}
+use mathlib.Core.Path.{_≡_, sym, subst, _∙_}
 use mathlib.Core.Bool.{Bool}
-use mathlib.Core.List.{List, [], _∷_, _++_, map}
+use mathlib.Core.List.{List, [], _++_}
 use lib.IntN.{ℤ}
 use lib.Ieee.{Float}
 use lib.ListN.{length, getD, length-append}
 use Rattle.rules.specs.Face.{Ring, faceNumber}
 use Rattle.rules.specs.Limits.{limits}
 use Rattle.rules.specs.Lines.{headLine, ringNodes, startingNodes, ringLine}
-use Rattle.listing_text.specs.Buffer.{written, Put}
-use Rattle.listing_text.proofs.Buffers.{written-none, written-row}
+use Rattle.lists.specs.Buffer.{written, Put}
+use Rattle.lists.proofs.Buffers.{written-none, written-row}
 use Rattle.listing_text.proofs.Lengths.{head-short, ring-short}
 use Rattle.rules.specs.Listing.{noRing, lineOf, linesOf}
 use Rattle.listing_steps.specs.Rooms.{linesRoom, listingRoom}

@@ -1,4 +1,4 @@
--- What writing the listing asks before each step: the graph is sound and in the stage before it, and the buffer has room.
+-- What writing the listing asks before a step: the graph is sound and in the stage before it, and the buffer has room.
 use Prim.Native.Nat.{ℕ, _≤_}
 use mathlib.Core.Path.{_≡_}
 use mathlib.Core.List.{List}
@@ -8,7 +8,7 @@ use Rattle.rules.specs.State.{State}
 use Rattle.rules.specs.Going.{Held}
 use Rattle.listing_steps.specs.Rooms.{listingRoom}
 
--- in stage 0 sorting is due, in stage 1 pruning, in stage 2 cutting, in stage 3 ring extraction
+-- in stage 0 the steps of a map are due, in stage 3 ring extraction
 pub record Due (stage : ℕ) (s : State) (out : List ℕ) : Type 0 where
   pub held : Held limits s
   pub here : s .stage ≡ stage

@@ -5,7 +5,7 @@ ghost use Prim.Native.Nat.{_+_, _<_, _≤_};
 ghost use lib.ListN.{length, getD};
 ghost use Rattle.rules.specs.Face.{Ring};
 ghost use Rattle.rules.specs.Limits.{limits};
-ghost use Rattle.listing_text.specs.Buffer.{Put};
+ghost use Rattle.lists.specs.Buffer.{Put};
 ghost use Rattle.listing_text.specs.Rooms.{ringRoom};
 ghost use Rattle.rules.specs.Listing.{lineOf, linesOf};
 ghost use Rattle.listing_steps.specs.Rooms.{linesRoom};

@@ -7,7 +7,7 @@ ghost use lib.ListN.{length, getD};
 ghost use Rattle.rules.specs.Decimal.{digit, decimal, signedDecimal};
 ghost use Rattle.rules.specs.Lines.{labelled, spaced, ringNodes, headLine, ringLine, refusalLine};
 ghost use Rattle.listing_text.specs.Rooms.{headRoom, ringRoom, refusalRoom};
-ghost use Rattle.listing_text.specs.Buffer.{Put};
+ghost use Rattle.lists.specs.Buffer.{Put};
 use tables::DirEdgeId;
 use tables::FaceId;
 use tables::NodeId;

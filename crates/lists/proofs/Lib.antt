@@ -11,3 +11,5 @@ pub mod Entries
 pub mod Halving
 pub mod Inserting
 pub mod Rising
+-- texts in a buffer
+pub mod Buffers

@@ -25,6 +25,11 @@ pub or-right : (a b : Bool) → b ≡ true → (a || b) ≡ true
 or-right true b e = refl
 or-right false b e = e
 
+-- neither of two holds
+pub neither : (a b : Bool) → (a || b) ≡ false → (a ≡ false) × (b ≡ false)
+neither true b e = absurd (true-is-false e)
+neither false b e = (refl, e)
+
 -- a part without which the whole fails
 pub part : (x whole : Bool) → whole ≡ true → (x ≡ false → whole ≡ false) → x ≡ true
 part true whole e h = refl

@@ -10,7 +10,7 @@ use Rattle.rules.specs.Stages.{create, created, sort, pruneStep, cutStep, reset
 use Rattle.rules.specs.Extraction.{extract}
 use Rattle.rules.specs.Sketch.{Sketch, Call, feed, adding, sorting, pruning, cutting, ringing, resetting}
 use Rattle.rules.specs.Claim.{isRefused, World, call}
-use Rattle.rules.specs.Filing.{Act, single, file, act, acts, fileSegments, feedFile, AllGiven}
+use Rattle.rules.specs.Filing.{Act, single, file, act, acts, fileSegments, segmentsAmong, feedFile, AllGiven}
 use Rattle.rules.proofs.Replies.{demand-passed}
 use Rattle.rules.proofs.FileFloats.{file-given}
 use Rattle.calls.specs.Replies.{leftWith}
@@ -50,7 +50,7 @@ step-turns s k (runs.added line reply t) m = turned (adding line) k reply t (rec
 step-turns s k (runs.filed bytes reply t) m =
     let f = records-filed limits bytes s in
     let left = sym (ap (λ o. o .state) m ∙ f .state) in
-    let taken = sym (ap (λ o. takenOf (o .reply)) m ∙ f .accepted) in
+    let taken = sym (ap (λ o. segmentsAmong bytes (takenOf (o .reply))) m ∙ f .accepted) in
     λ i. record { state = left i; sketch = feedFile (fileSegments bytes) (taken i) k }
 step-turns s k (runs.sorted reply t) m = turned sorting k reply t (record {}) (sort limits s) m
 step-turns s k (runs.pruned out reply t written) m = turned (pruning out) k reply t written (pruneStep limits s out) m

@@ -11,7 +11,7 @@ use Rattle.rules.specs.Euler.{census}
 use Rattle.rules.specs.Adding.{Nothing, Added}
 use Rattle.rules.specs.Stages.{Cutting}
 use Rattle.rules.specs.Extraction.{Lent, RingAnswer, holesIn}
-use Rattle.rules.specs.Filing.{fileSegments, feedFile}
+use Rattle.rules.specs.Filing.{fileSegments, segmentsAmong, feedFile}
 use Rattle.rules.specs.Sketch.{Sketch, pointAt, sketched, feed, adding, sorting, pruning, cutting, ringing, resetting}
 use Rattle.rules.specs.SketchRings.{sketchHoles}
 use Rattle.rules.specs.Claim.{isRefused, emptySketch, ringsFrom, RingRules, SideRules, TableRules, WrittenRules}
@@ -68,10 +68,11 @@ ends s [] = s
 ends s (x ∷ xs) = ends (after x) xs
 
 -- What the sketch is fed of a step: the call's kind, an addition's segment, and whether the call was refused. Of a file it is fed the segments
--- one by one, in order, as additions: as many as the reply says were taken as accepted ones, and the one after them as a refused one.
+-- one by one, in order, as additions: those among the records that the reply says were taken as accepted ones, and the one after them as a refused
+-- one. Records passed over are counted in the reply and feed nothing.
 abbrev pub feedStep : Step → Sketch → Sketch
 feedStep (added line reply s) k = feed (isRefused reply) (adding line) k
-feedStep (filed bytes reply s) k = feedFile (fileSegments bytes) (takenOf reply) k
+feedStep (filed bytes reply s) k = feedFile (fileSegments bytes) (segmentsAmong bytes (takenOf reply)) k
 feedStep (sorted reply s) k = feed (isRefused reply) sorting k
 feedStep (pruned out reply s written) k = feed (isRefused reply) (pruning out) k
 feedStep (cut out reply s written) k = feed (isRefused reply) (cutting out) k

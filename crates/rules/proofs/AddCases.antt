@@ -9,7 +9,7 @@ use Rattle.geometry.specs.Angle.{planar}
 use Rattle.geometry.specs.Reply.{refused, success}
 use Rattle.geometry.specs.declared.Line3D.{Line3D}
 use Rattle.lists.proofs.Counts.{true-is-false}
-use Rattle.lists.proofs.Tests.{both}
+use Rattle.lists.proofs.Tests.{both, neither}
 use Rattle.rotation.specs.Rotation.{Key, keySame}
 use Rattle.rules.specs.HalfEdge.{edgeOf}
 use Rattle.rules.specs.Keys.{keyOf}
@@ -129,11 +129,6 @@ module _ (l : Limits) (g : Line3D) (s : State) where
     lists = record {};
   }
 
-  -- two tests fail
-  or-false : (a b : Bool) → (a || b) ≡ false → (a ≡ false) × (b ≡ false)
-  or-false true b e = absurd (true-is-false e)
-  or-false false b e = (refl, e)
-
   -- what holds of each outcome holds of what an addition answers and leaves
   pub add-cases : (P : Outcome Added Nothing → Type 0) → ((n : ℕ) → (eqb n 12 ≡ true → Lacking) → P (refusal n)) → (Found → P found) → (New → P made) → P (add l g s)
   unfolding add
@@ -159,7 +154,7 @@ module _ (l : Limits) (g : Line3D) (s : State) where
       } in
       cond-cases P (ltb h (2 * s .edges)) _ _
       (λ t. demand-cases P (known || some) 12 s _
-      (λ f. let r = or-false known some f in other 12 (λ z. record { ok = ok; need = ap₂ (λ a b. not (a && b)) t (r .0); none = r .1 }))
+      (λ f. let r = neither known some f in other 12 (λ z. record { ok = ok; need = ap₂ (λ a b. not (a && b)) t (r .0); none = r .1 }))
       (λ e12. old (record { tested = tested; there = t; space = e12 })))
       (λ t. demand-cases P (leb (s .nodes + (cond (nu g s) 1 0 + cond (nv g s) 1 0)) (l .nodes)) 3 s _ (λ f. other 3 (λ z. absurd (true-is-false (sym z)))) (λ e3.
       demand-cases P (ltb (s .edges) (l .edges)) 4 s _ (λ f. other 4 (λ z. absurd (true-is-false (sym z)))) (λ e4.

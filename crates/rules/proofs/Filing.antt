@@ -16,7 +16,6 @@ use Rattle.rules.specs.LineIds.{listEnd, lowestFree}
 use Rattle.rules.specs.State.{State, roomy, sound}
 use Rattle.rules.specs.Adding.{Outcome, demand, Nothing, Added, add}
 use Rattle.rules.specs.Extraction.{Lent, RingAnswer, extract}
-use Rattle.rules.specs.SegmentFile.{end}
 use Rattle.rules.specs.Sketch.{Sketch, Call, adding, pointAt, sketched, feed}
 use Rattle.rules.specs.SketchRings.{sketchHoles}
 use Rattle.rules.specs.Claim.{isRefused, call, World, turnWorld, history, emptySketch, ringsFrom, RingRules, SideRules, TableRules, WrittenRules, Given64, AllReal, Claim}

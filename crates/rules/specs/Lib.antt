@@ -26,7 +26,10 @@ pub mod Extraction
 pub mod Decimal
 pub mod Lines
 pub mod Listing
+pub mod Records
 pub mod SegmentFile
+pub mod RingFile
+pub mod RingFileRules
 pub mod Sketch
 pub mod SketchRings
 pub mod Claim
@@ -36,3 +39,4 @@ pub mod Traced
 pub mod Worked
 pub mod WorkedIds
 pub mod WorkedHoles
+pub mod WorkedFiles

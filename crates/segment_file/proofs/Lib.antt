@@ -1,4 +1,3 @@
 -- Laws that the proofs of the functions share.
-pub mod Bytes
 pub mod Patterns
-pub mod Cases
+pub mod Found

@@ -1,3 +1,3 @@
--- What the cases of a record say, in document 01's numbers and values. What stands at a place of the file is `readAt` of rules.
+-- What the cases of a record say, in the documents' numbers and values. What bytes begin with is `segmentNext` of rules.
 pub mod Record
 pub mod Worked

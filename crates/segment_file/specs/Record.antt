@@ -1,19 +1,20 @@
 -- What each case of a record read from the file says.
-use Prim.Native.Nat.{ℕ}
-use Rattle.rules.specs.SegmentFile.{Read, segment, wrong, end}
-use Rattle.segment_file.specs.declared.FileRefusal.{FileRefusal}
-use Rattle.segment_file.specs.declared.FileRefusal.the-variants.{Short, Length, Kind}
+use Prim.Native.Nat.{ℕ, _+_}
+use mathlib.Core.List.{List}
+use Rattle.geometry.specs.declared.Line3D.{Line3D}
+use Rattle.frames.specs.Frames.{numberOf}
+use Rattle.rules.specs.Records.{field, Found, taken, passed, wrong, end}
+use Rattle.rules.specs.SegmentFile.{coordAt}
 use Rattle.segment_file.specs.declared.Record.{Record}
-use Rattle.segment_file.specs.declared.Record.the-variants.{Segment, End, Refused}
+use Rattle.segment_file.specs.declared.Record.the-variants.{Segment, Passed, End, Refused}
 
--- document 01's number of a refusal
-abbrev pub numberOf : FileRefusal → ℕ
-numberOf Short = 9
-numberOf Length = 10
-numberOf Kind = 11
+-- the segment of the record at a place
+abbrev pub lineAt : List ℕ → ℕ → Line3D
+lineAt s at = record { start = coordAt s (at + 10); end = coordAt s (at + 34); «line_id» = field s (at + 6) 4 }
 
--- a segment with the next record's place, the end, or a refusal's number
-abbrev pub readOf : Record → Read
-readOf (Segment line next) = segment line next
+-- a segment or a record passed over, with its bytes, the end, or a refusal's number
+abbrev pub readOf : Record → Found Line3D
+readOf (Segment line size) = taken line size
+readOf (Passed size) = passed size
 readOf End = end
-readOf (Refused r) = wrong (numberOf r)
+readOf (Refused why) = wrong (numberOf why)

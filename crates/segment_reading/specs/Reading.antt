@@ -1,60 +1,95 @@
--- What the functions that read ask and leave. Nothing names the bytes that a read brings but the buffer after it, so each read's contract
--- says what became of exactly the bytes in the buffer.
-use Prim.Native.Nat.{ℕ, _+_, _≤_}
+-- What the functions that read ask and leave. Nothing names the bytes that a read brings but the buffer after it, so each turn's contract says
+-- that there are bytes, as many as it brought, and what became of them.
+use Prim.Native.Nat.{ℕ, _+_, _<_, _≤_}
 use mathlib.Core.Path.{_≡_}
-use mathlib.Core.Bool.{Bool, true, false}
-use mathlib.Core.List.{List}
+use mathlib.Core.Bool.{Bool, true, false, cond, _&&_}
+use mathlib.Core.List.{List, _++_}
+use lib.Dec.{ltb, leb}
 use lib.ListN.{length, take, drop}
+use Rattle.geometry.specs.Reply.{Reply, refused, success}
 use Rattle.rules.specs.Limits.{limits}
 use Rattle.rules.specs.State.{State}
-use Rattle.tables.specs.declared.PlanarGraph.{PlanarGraph}
-use Rattle.intake.specs.Taking.{Taking, takeRecords, takeFile}
+use Rattle.rules.specs.Adding.{Nothing}
+use Rattle.rules.specs.Records.{Found, taken, passed, wrong, end, field, wholeFrame}
+use Rattle.buffered_input.specs.Reads.{isOpen}
+use Rattle.buffered_input.specs.declared.Source.{Source}
+use Rattle.buffered_input.specs.declared.Source.the-variants.{Open, Ended, Failed}
+use Rattle.intake.specs.Taking.{takeFile, waits}
 use Rattle.intake.specs.Answers.{replyOf}
 use Rattle.intake.specs.declared.TakeReply.{TakeReply}
-use Rattle.intake.specs.declared.TakeReply.the-variants as take
-use Rattle.segment_reading.specs.declared.Source.{Source}
-use Rattle.segment_reading.specs.declared.Source.the-variants.{Open, Ended, Failed}
 use Rattle.segment_reading.specs.declared.Turn.{Turn}
 use Rattle.segment_reading.specs.declared.ReadOut.{ReadOut}
 
--- what bytes come to: where the input ended they are all of it, else their whole records are taken
-abbrev pub takenBy : Source → List ℕ → State → Taking
-takenBy Open bytes s = takeRecords limits bytes s
-takenBy Ended bytes s = takeFile limits bytes s
-takenBy Failed bytes s = takeRecords limits bytes s
+-- ---- sizes
 
--- there may be more to take
+-- the buffer's bytes
+abbrev pub bufferBytes : ℕ
+bufferBytes = 65536
+
+-- no read is begun once so many bytes have come
+abbrev pub mostBytes : ℕ
+mostBytes = 4611686018427387904
+
+-- ---- whether to go on
+
+-- there may be more to take: no record was bad, and the input goes on
 abbrev pub goesOn : TakeReply → Source → Bool
-goesOn take.Done Open = true
-goesOn take.Done Ended = false
-goesOn take.Done Failed = false
-goesOn (take.Refused n) source = false
+goesOn reply source = waits (replyOf reply) && isOpen source
 
--- a read failed
-abbrev pub isFailed : Source → Bool
-isFailed Open = false
-isFailed Ended = false
-isFailed Failed = true
+-- where more bytes have come than can be counted on, no more is read, as if a read had failed
+abbrev pub capped : Source → ℕ → Source
+capped Open bytes = cond (ltb bytes mostBytes) Open Failed
+capped Ended bytes = Ended
+capped Failed bytes = Failed
 
--- the last of the reads brought some bytes: more may be there, but no more is read, as if one had failed
-abbrev pub outOfReads : PlanarGraph → ℕ → ℕ → ReadOut
-outOfReads graph bytes records = record { graph = graph; bytes = bytes; records = records; reply = take.Done; source = Failed }
+-- ---- a record that is longer than the buffer
 
--- One read behind the bytes that were kept. They stay, and what the read left is what the bytes in the buffer come to: those kept and
--- those that it brought.
-pub record Turned (kept : ℕ) (old new : List ℕ) (before : State) (r : Turn) (after : State) : Type 0 where
-  pub room : kept + r .got ≤ length new
-  pub front : take kept new ≡ take kept old
-  pub took : record { reply = replyOf (r .reply); count = r .count; state = after } ≡ takenBy (r .source) (take (kept + r .got) new) before
+-- its length and kind are there, and it cannot fit
+abbrev pub isLong : List ℕ → Bool
+isLong p = leb 6 (length p) && ltb bufferBytes (4 + field p 0 4)
 
--- the rest of the bytes stands at the front of the buffer
-pub record Fronted (from n : ℕ) (old new : List ℕ) : Type 0 where
-  pub front : take n new ≡ take n (drop from old)
-  pub rest : drop n new ≡ drop n old
+-- what is answered once it has all come: it is passed over, or refused
+abbrev pub wholeReply : Found ℕ → Reply Nothing
+wholeReply (taken kind size) = success (record {})
+wholeReply (passed size) = success (record {})
+wholeReply (wrong n) = refused n
+wholeReply end = success (record {})
 
--- All reads: there are bytes, as many as the reads brought, and what was left is what they come to. No more is to be taken.
+-- or 9, where the input ends inside it
+abbrev pub longReply : Source → ℕ → ℕ → Reply Nothing
+longReply source size kind = cond (isOpen source) (wholeReply (wholeFrame size kind)) (refused 9)
+
+-- a record passed over is counted, a refused one is not
+abbrev pub passedCount : Reply Nothing → ℕ
+passedCount (refused n) = 0
+passedCount (success none) = 1
+
+-- ---- contracts
+
+-- the bytes kept stand at the buffer's front and are a record that is not there to its end, or none
+pub record Kept (kept : ℕ) (buffer : List ℕ) : Type 0 where
+  pub full : length buffer ≡ bufferBytes
+  pub room : kept ≤ bufferBytes
+  pub short : length (take kept buffer) < 4 + field (take kept buffer) 0 4
+
+-- One turn, behind the bytes that were kept.
+pub record Turned (kept new : List ℕ) (before : State) (r : Turn) (after : State) : Type 0 where
+  -- the bytes that came
+  pub came : List ℕ
+  pub size : length came ≡ r .got
+  pub few : r .got < 4 + 4294967296
+  pub some : isOpen (r .source) ≡ true → 0 < r .got
+  -- what was taken is what all of them come to as a file
+  pub used : ℕ
+  pub took : record { reply = replyOf (r .reply); count = r .count; bytes = used; state = after } ≡ takeFile limits (kept ++ came) before
+  -- where it goes on, what stands behind that is kept
+  pub room : r .kept ≤ length new
+  pub rest : goesOn (r .reply) (r .source) ≡ true → take (r .kept) new ≡ drop used (kept ++ came)
+
+-- All turns: there are bytes, as many as came, and what was taken is what they come to as a file. No more is to be taken.
 pub record ReadAll (before : State) (r : ReadOut) (after : State) : Type 0 where
   pub over : goesOn (r .reply) (r .source) ≡ false
   pub bytes : List ℕ
   pub size : length bytes ≡ r .bytes
-  pub took : record { reply = replyOf (r .reply); count = r .records; state = after } ≡ takenBy (r .source) bytes before
+  pub used : ℕ
+  pub took : record { reply = replyOf (r .reply); count = r .records; bytes = used; state = after } ≡ takeFile limits bytes before

@@ -1,41 +1,46 @@
-// Reading a segment file as it comes: a buffer is filled, its whole records are taken, and what is
-// left of it is moved to its front for the next read.
+// Reading a segment file as it comes: a buffer is filled, its records are taken, and what is left of it
+// is moved to its front for the next read. A record that is longer than the buffer is passed over
+// without being held.
 ghost use mathlib.Core.Path.{_≡_};
-ghost use Prim.Native.Nat.{_+_, _-_, _<_, _≤_};
-ghost use lib.ListN.{length};
+ghost use Prim.Native.Nat.{_+_, _≤_};
+ghost use mathlib.Core.Bool.{true};
+ghost use lib.ListN.{length, take};
 ghost use Rattle.adding.specs.Outcomes.{Ready};
 ghost use Rattle.rules.specs.Limits.{limits};
+ghost use Rattle.rules.specs.State.{State};
 ghost use Rattle.tables.specs.Regions.{stateIn};
-ghost use Rattle.segment_reading.specs.Reading.{goesOn, isFailed, outOfReads, Turned, Fronted, ReadAll};
+ghost use Rattle.intake.specs.Answers.{replyOf};
+ghost use Rattle.segment_reading.specs.Reading.{goesOn, capped, isLong, longReply, passedCount, Kept, Turned, ReadAll};
+use buffered_input::Source;
+use frames::FileRefusal;
+use frames::Frame;
+use frames::LENGTH_BYTES;
+use frames::file_number;
 use intake::TakeReply;
-use segment_file::RECORD_BYTES;
 use tables::PlanarGraph;
 
-// No multiple of a record's length, so that records straddle two reads in every long file.
+// No multiple of a segment's bytes, so that records straddle two reads in every long file.
 const BUFFER_BYTES: usize = 65_536;
 
-// A proved loop has to end, and nothing says that the input does: more reads than any run makes. Each
-// brings 65,536 bytes at most, so their count fits a u64.
-const READS: u64 = 0x8000_0000_0000;
+// The bytes that say how long a record is and of which kind.
+const HEAD_BYTES: usize = 6;
 
-// Whether the input may have more: the last read brought some bytes, it met the end, or it failed.
-pub enum Source {
-    Open,
-    Ended,
-    Failed,
-}
+// A proved loop has to end, and nothing says that the input does: more bytes than any run reads, with
+// room in a u64 for those of one more turn.
+const MOST_BYTES: u64 = 0x4000_0000_0000_0000;
 
-// What one read left: the counts and the stage, how many bytes it brought, how many records were taken
-// then, the answer to them, and whether the input may have more.
+// What one turn left: the counts and the stage, how many bytes it brought, how many are kept for the
+// next one, how many records were taken, the answer to them, and whether the input may have more.
 struct Turn {
     graph: PlanarGraph,
     got: usize,
+    kept: usize,
     count: usize,
     reply: TakeReply,
     source: Source,
 }
 
-// The same after the last read, of all reads together.
+// The same after the last turn, of all turns together.
 pub struct ReadOut {
     pub graph: PlanarGraph,
     pub bytes: u64,
@@ -44,69 +49,97 @@ pub struct ReadOut {
     pub source: Source,
 }
 
-// Moves n bytes from `from` on to the front.
-fn move_front(buffer: &mut [u8], from: usize, n: usize)
-    requires { ⌜ from + n ≤ length (now buffer) ⌝ }
-    ensures { λ r. ⌜ Fronted from n (now (buffer .entry)) (now (buffer .exit)) ⌝ }
-{
-    let mut i = 0;
-    while i < n {
-        buffer[i] = buffer[from + i];
-        i += 1;
-    }
-}
-
-// Of a filled buffer whose first bytes were used, the rest is kept, at its front. Answers how many
-// bytes these are.
-fn keep_rest(buffer: &mut [u8], used: usize, filled: usize) -> usize
-    requires { ⌜ (used ≤ filled) × (filled ≤ length (now buffer)) ⌝ }
-    ensures { λ r. ⌜ (r ≡ filled - used) × Fronted used r (now (buffer .entry)) (now (buffer .exit)) ⌝ }
-{
-    let rest = filled - used;
-    move_front(buffer, used, rest);
-    rest
-}
-
-// Whether there may be more to take: no record was bad, and the input goes on.
+// Whether there may be more to take: no record was bad, and the input goes on. 9 is a record that is not
+// there to its end yet.
 fn goes_on(reply: TakeReply, source: Source) -> bool
     ensures { λ r. ⌜ r ≡ goesOn reply source ⌝ }
 {
-    let TakeReply::Done = reply else {
+    match reply {
+        TakeReply::Done => buffered_input::is_open(source),
+        TakeReply::Refused(number) => {
+            if number != file_number(FileRefusal::Short) {
+                return false;
+            }
+            buffered_input::is_open(source)
+        }
+    }
+}
+
+// After more bytes than any run reads no more is read, as if a read had failed.
+fn capped(source: Source, bytes: u64) -> Source
+    ensures { λ r. ⌜ r ≡ capped source bytes ⌝ }
+{
+    match source {
+        Source::Open => {
+            if bytes < MOST_BYTES {
+                return Source::Open;
+            }
+            Source::Failed
+        }
+        Source::Ended => Source::Ended,
+        Source::Failed => Source::Failed,
+    }
+}
+
+// Whether the record at the buffer's front cannot fit into it.
+fn is_long(buffer: &[u8], kept: usize) -> bool
+    requires { ⌜ kept ≤ length (now buffer) ⌝ }
+    ensures { λ r. ⌜ r ≡ isLong (take kept (now (buffer .entry))) ⌝ }
+{
+    if kept < HEAD_BYTES {
         return false;
-    };
-    match source {
-        Source::Open => true,
-        Source::Ended => false,
-        Source::Failed => false,
+    }
+    BUFFER_BYTES < LENGTH_BYTES + frames::le32(buffer, 0) as usize
+}
+
+// The answer to a record that was not held: passed over or refused, or 9 where the input ended inside it.
+fn long_reply(source: Source, length: u32, kind: u16) -> TakeReply
+    ensures { λ r. ⌜ replyOf r ≡ longReply source length kind ⌝ }
+{
+    if !buffered_input::is_open(source) {
+        return TakeReply::Refused(file_number(FileRefusal::Short));
+    }
+    match frames::whole_frame(length, kind) {
+        Frame::Segment(_) => TakeReply::Done,
+        Frame::Ring(_) => TakeReply::Done,
+        Frame::Skipped(_, _) => TakeReply::Done,
+        Frame::End => TakeReply::Done,
+        Frame::Refused(why) => TakeReply::Refused(file_number(why)),
     }
 }
 
-// Whether a read failed.
-pub fn is_failed(source: Source) -> bool
-    ensures { λ r. ⌜ r ≡ isFailed source ⌝ }
+// How many records that answer counts.
+fn passed_count(reply: TakeReply) -> usize
+    ensures { λ r. ⌜ r ≡ passedCount (replyOf reply) ⌝ }
 {
-    match source {
-        Source::Open => false,
-        Source::Ended => false,
-        Source::Failed => true,
+    match reply {
+        TakeReply::Done => 1,
+        TakeReply::Refused(_) => 0,
     }
 }
 
-// The last of the reads brought some bytes: no more is read, as if one had failed.
-fn out_of_reads(graph: PlanarGraph, bytes: u64, records: u64) -> ReadOut
-    ensures { λ r. ⌜ r ≡ outOfReads graph bytes records ⌝ }
+// A record that cannot fit: the rest of it is dropped as it comes.
+fn skip_turn(graph: PlanarGraph, input: i32, buffer: &mut [u8], kept: usize) -> Turn
+    requires { ⌜ Kept kept (now buffer) × (isLong (take kept (now buffer)) ≡ true) ⌝ }
+    ensures { λ r. ⌜ (r .graph ≡ graph) × ((s : State) → Turned (take kept (now (buffer .entry))) (now (buffer .exit)) s r s) ⌝ }
 {
-    ReadOut {
+    let length = frames::le32(buffer, 0);
+    let kind = frames::le16(buffer, LENGTH_BYTES);
+    let missing = LENGTH_BYTES + length as usize - kept;
+    let brought = buffered_input::drop_bytes(input, buffer, missing);
+    let source = brought.source;
+    let reply = long_reply(source, length, kind);
+    Turn {
         graph,
-        bytes,
-        records,
-        reply: TakeReply::Done,
-        source: Source::Failed,
+        got: brought.got,
+        kept: 0,
+        count: passed_count(reply),
+        reply,
+        source,
     }
 }
 
-// One read behind the bytes that were kept, and the records that are whole then. The buffer is left
-// filled, so that the contract can name the bytes.
+// One read behind the bytes that were kept, and the records that are there then.
 fn read_turn(
     graph: PlanarGraph,
     input: i32,
@@ -118,42 +151,28 @@ fn read_turn(
     marks: &mut [bool],
     ids: &mut [u32],
 ) -> Turn
-    requires { ⌜ Ready limits (stateIn limits graph (now floats) (now numbers) (now stars) (now marks) (now ids)) × (kept < 58) × (length (now buffer) ≡ 65536) ⌝ }
-    ensures { λ r. ⌜ Turned kept (now (buffer .entry)) (now (buffer .exit))
+    requires { ⌜ Ready limits (stateIn limits graph (now floats) (now numbers) (now stars) (now marks) (now ids)) × Kept kept (now buffer) ⌝ }
+    ensures { λ r. ⌜ Turned (take kept (now (buffer .entry))) (now (buffer .exit))
         (stateIn limits graph (now (floats .entry)) (now (numbers .entry)) (now (stars .entry)) (now (marks .entry)) (now (ids .entry)))
         r
         (stateIn limits (r .graph) (now (floats .exit)) (now (numbers .exit)) (now (stars .exit)) (now (marks .exit)) (now (ids .exit))) ⌝ }
 {
-    let got = libc::read(input, &mut buffer[kept..]);
-    if got < 0 {
-        return Turn {
-            graph,
-            got: 0,
-            count: 0,
-            reply: TakeReply::Done,
-            source: Source::Failed,
-        };
+    if is_long(buffer, kept) {
+        return skip_turn(graph, input, buffer, kept);
     }
-    if got == 0 {
-        return Turn {
-            graph,
-            got: 0,
-            count: 0,
-            reply: intake::end_reply(&buffer[..kept]),
-            source: Source::Ended,
-        };
-    }
-    let brought = io::count(got, &buffer[kept..]);
-    let filled = kept + brought;
+    let brought = buffered_input::read_some(input, &mut buffer[kept..]);
+    let source = brought.source;
+    let filled = kept + brought.got;
     let taken = intake::take_records(graph, &buffer[..filled], floats, numbers, stars, marks, ids);
     let after = taken.graph;
     let reply = taken.reply;
     Turn {
         graph: after,
-        got: brought,
+        got: brought.got,
+        kept: buffered_input::keep_rest(buffer, taken.bytes, filled),
         count: taken.count,
         reply,
-        source: Source::Open,
+        source,
     }
 }
 
@@ -178,8 +197,7 @@ pub fn read_segments(
     let mut kept = 0;
     let mut bytes: u64 = 0;
     let mut records: u64 = 0;
-    let mut reads = READS;
-    while 0 < reads {
+    loop {
         let turn = read_turn(
             current,
             input,
@@ -193,9 +211,10 @@ pub fn read_segments(
         );
         let after = turn.graph;
         let reply = turn.reply;
-        let source = turn.source;
+        let latest = turn.source;
         bytes += turn.got as u64;
         records += turn.count as u64;
+        let source = capped(latest, bytes);
         if !goes_on(reply, source) {
             return ReadOut {
                 graph: after,
@@ -205,9 +224,7 @@ pub fn read_segments(
                 source,
             };
         }
-        kept = keep_rest(&mut buffer, RECORD_BYTES * turn.count, kept + turn.got);
+        kept = turn.kept;
         current = after;
-        reads -= 1;
     }
-    out_of_reads(current, bytes, records)
 }

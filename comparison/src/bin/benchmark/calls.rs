@@ -122,8 +122,8 @@ fn run_original(lines: &[Line3D], bytes: &[u8]) -> (Times, usize) {
 
 fn read_original(bytes: &[u8]) -> PlanarGraph {
     let mut graph = PlanarGraph::new();
-    for line in listing::records(bytes) {
-        graph.add_line(line.expect("a segment"));
+    for line in listing::segments(bytes) {
+        graph.add_line(line.expect("a good record").expect("a segment"));
     }
     graph
 }

@@ -10,8 +10,8 @@ mod programs;
 use comparison::inputs::{self, Segment};
 use comparison::islands;
 use comparison::random::Random;
-use oracle::listing;
 use oracle::original::Line3D;
+use oracle::records;
 use oracle::state::{EDGE_LIMIT, NODE_LIMIT};
 use std::time::Duration;
 
@@ -80,7 +80,7 @@ fn lines(map: &[Segment]) -> Vec<Line3D> {
 }
 
 fn file(lines: &[Line3D]) -> Vec<u8> {
-    lines.iter().flat_map(listing::record).collect()
+    lines.iter().flat_map(records::segment).collect()
 }
 
 /// The median, in microseconds.

@@ -8,17 +8,18 @@ use Rattle.rules.specs.Limits.{limits}
 use Rattle.adding.specs.Outcomes.{Ready}
 use Rattle.intake.specs.Taking.{takeFile}
 use Rattle.intake.specs.Answers.{takingOf}
-use Rattle.listing_text.specs.Buffer.{Put}
+use Rattle.lists.specs.Buffer.{Put}
 use Rattle.listing_steps.specs.Rooms.{listingRoom}
 use Rattle.byte_listing.specs.File.{emptyGraph, textOf, fileText}
 use Rattle.byte_listing.proofs.Empty.{blank, blank-empty, empty-ready}
-use Rattle.byte_listing.proofs.Files.{file-ready, ready-due, put-lists}
+use Rattle.intake.proofs.Left.{file-ready}
+use Rattle.byte_listing.proofs.Files.{ready-due, put-lists}
 use borrow.Author.Needs.{needs}
 use Rattle.byte_listing.proofs.list_bytes.Statement.{statement}
 use Rattle.byte_listing.proofs.list_bytes.Tie as tie
 
 -- the start, from where the file was taken
-abbrev entry : tie.After-take-file → tie.Start
+abbrev entry : tie.After-take-records → tie.Start
 entry c = c .before .before .before .before .before .before .before .before .before .before
 
 -- the new graph can be added to
@@ -26,10 +27,10 @@ starts : (c : tie.After-empty-graph) → Ready limits (blank (c .empty-graph .re
 starts c = subst (Ready limits) (sym (ap blank (c .empty-graph .ensures) ∙ blank-empty)) empty-ready
 
 -- what was taken is what the file comes to
-takes : (c : tie.After-take-file) → (let x = c .take-file .last .1 .1 in
-    takingOf (c .take-file .result) (x .0) (x .1 .0) (x .1 .1 .0) (x .1 .1 .1 .0) (x .1 .1 .1 .1 .0)) ≡ takeFile limits (entry c .args .bytes .now) (emptyGraph limits)
+takes : (c : tie.After-take-records) → (let x = c .take-records .last .1 .1 in
+    takingOf (c .take-records .result) (x .0) (x .1 .0) (x .1 .1 .0) (x .1 .1 .1 .0) (x .1 .1 .1 .1 .0)) ≡ takeFile limits (entry c .args .bytes .now) (emptyGraph limits)
 unfolding ofBits
-takes c = c .take-file .ensures ∙ ap (takeFile limits (entry c .args .bytes .now)) (ap blank (c .before .before .before .before .before .before .empty-graph .ensures) ∙ blank-empty)
+takes c = c .take-records .ensures ∙ ap (takeFile limits (entry c .args .bytes .now)) (ap blank (c .before .before .before .before .before .before .empty-graph .ensures) ∙ blank-empty)
 
 returns : tie.Need-returns
 returns c = let k = c .before .before .before in rw (lt-ltb (length (k .args .out .now)) (listingRoom limits) (c .if1 .taken)) refl
@@ -37,24 +38,24 @@ returns c = let k = c .before .before .before in rw (lt-ltb (length (k .args .ou
 empty-graph-requires : tie.Need-empty-graph-requires
 empty-graph-requires c κs = search needs
 
-slice-aggregate-take-file : tie.Need-slice-aggregate-take-file
-slice-aggregate-take-file c = search needs
+slice-aggregate-take-records : tie.Need-slice-aggregate-take-records
+slice-aggregate-take-records c = search needs
 
-slice-aggregate-take-file-2 : tie.Need-slice-aggregate-take-file-2
-slice-aggregate-take-file-2 c = search needs
+slice-aggregate-take-records-2 : tie.Need-slice-aggregate-take-records-2
+slice-aggregate-take-records-2 c = search needs
 
-slice-aggregate-take-file-3 : tie.Need-slice-aggregate-take-file-3
-slice-aggregate-take-file-3 c = search needs
+slice-aggregate-take-records-3 : tie.Need-slice-aggregate-take-records-3
+slice-aggregate-take-records-3 c = search needs
 
-slice-aggregate-take-file-4 : tie.Need-slice-aggregate-take-file-4
-slice-aggregate-take-file-4 c = search needs
+slice-aggregate-take-records-4 : tie.Need-slice-aggregate-take-records-4
+slice-aggregate-take-records-4 c = search needs
 
-slice-aggregate-take-file-5 : tie.Need-slice-aggregate-take-file-5
-slice-aggregate-take-file-5 c = search needs
+slice-aggregate-take-records-5 : tie.Need-slice-aggregate-take-records-5
+slice-aggregate-take-records-5 c = search needs
 
-take-file-requires : tie.Need-take-file-requires
+take-records-requires : tie.Need-take-records-requires
 unfolding ofBits
-take-file-requires c κs = starts (c .before .before .before .before .before)
+take-records-requires c κs = starts (c .before .before .before .before .before)
 
 slice-aggregate-put-taken : tie.Need-slice-aggregate-put-taken
 slice-aggregate-put-taken c = search needs
@@ -95,12 +96,12 @@ list-bytes-spec =
     (tie.spec
     returns
     empty-graph-requires
-    slice-aggregate-take-file
-    slice-aggregate-take-file-2
-    slice-aggregate-take-file-3
-    slice-aggregate-take-file-4
-    slice-aggregate-take-file-5
-    take-file-requires
+    slice-aggregate-take-records
+    slice-aggregate-take-records-2
+    slice-aggregate-take-records-3
+    slice-aggregate-take-records-4
+    slice-aggregate-take-records-5
+    take-records-requires
     slice-aggregate-put-taken
     slice-aggregate-put-taken-2
     slice-aggregate-put-taken-3

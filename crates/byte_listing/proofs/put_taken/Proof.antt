@@ -4,7 +4,7 @@ use Rattle.rules.specs.Limits.{limits}
 use Rattle.rules.specs.State.{State}
 use Rattle.tables.specs.Regions.{stateIn}
 use Rattle.intake.specs.Answers.{replyOf}
-use Rattle.listing_text.specs.Buffer.{Put}
+use Rattle.lists.specs.Buffer.{Put}
 use Rattle.byte_listing.specs.File.{textOf}
 use borrow.Author.Needs.{needs}
 use Rattle.byte_listing.proofs.put_taken.Statement.{statement}

@@ -9,13 +9,12 @@ use Rattle.tables.specs.Regions.{stateIn}
 use Rattle.adding.specs.Outcomes.{Ready}
 use Rattle.intake.specs.Taking.{Taking, takeFile}
 use Rattle.intake.specs.Answers.{replyOf}
-use Rattle.listing_text.specs.Buffer.{Put}
+use Rattle.lists.specs.Buffer.{Put}
 use Rattle.byte_listing.specs.File.{emptyGraph, textOf}
 use Rattle.byte_listing.proofs.Empty.{blank, blank-empty, empty-ready}
-use Rattle.byte_listing.proofs.Files.{file-ready, ready-due}
-use Rattle.segment_reading.specs.Reading.{takenBy}
-use Rattle.segment_reading.proofs.InParts.{over-file}
-use Rattle.list_segments.proofs.Texts.{put-within}
+use Rattle.intake.proofs.Left.{file-ready}
+use Rattle.byte_listing.proofs.Files.{ready-due}
+use Rattle.byte_listing.proofs.Texts.{put-within}
 use borrow.Author.Needs.{needs}
 use Rattle.list_segments.proofs.put_input.Statement.{statement}
 use Rattle.list_segments.proofs.put_input.Tie as tie
@@ -33,18 +32,11 @@ abbrev taking : tie.After-read-segments → Taking
 taking c =
     let r = c .read-segments .result in
     let x = c .read-segments .last .1 .1 in
-    record { reply = replyOf (r .reply); count = r .records; state = stateIn limits (r .graph) (x .0) (x .1 .0) (x .1 .1 .0) (x .1 .1 .1 .0) (x .1 .1 .1 .1 .0) }
+    record { reply = replyOf (r .reply); count = r .records; bytes = c .read-segments .ensures .used; state = stateIn limits (r .graph) (x .0) (x .1 .0) (x .1 .1 .0) (x .1 .1 .1 .0) (x .1 .1 .1 .1 .0) }
 
-from-empty : (c : tie.After-read-segments) → taking c ≡ takenBy (c .read-segments .result .source) (bytes c) (emptyGraph limits)
+takes : (c : tie.After-read-segments) → taking c ≡ takeFile limits (bytes c) (emptyGraph limits)
 unfolding ofBits
-from-empty c = c .read-segments .ensures .took ∙ ap (takenBy (c .read-segments .result .source) (bytes c)) (ap blank (c .before .before .before .before .before .before .empty-graph .ensures) ∙ blank-empty)
-
--- no read failed, so it is what they come to as a file
-takes : (c : tie.After-is-failed) → c .is-failed .result ≡ false → (let d = c .before .before .before .before .before .before .before in taking d ≡ takeFile limits (bytes d) (emptyGraph limits))
-takes c e =
-    let d = c .before .before .before .before .before .before .before in
-    let r = d .read-segments .result in
-    over-file (r .source) (bytes d) (emptyGraph limits) (r .reply) (taking d) (sym (c .is-failed .ensures) ∙ e) (d .read-segments .ensures .over) refl (from-empty d)
+takes c = c .read-segments .ensures .took ∙ ap (takeFile limits (bytes c)) (ap blank (c .before .before .before .before .before .before .empty-graph .ensures) ∙ blank-empty)
 
 empty-graph-requires : tie.Need-empty-graph-requires
 empty-graph-requires c κs = search needs
@@ -94,7 +86,7 @@ put-taken-requires c κs =
     let f = c .before .before .before .before .before .before .before in
     let d = f .before .before .before .before .before .before .before in
     let k = entry d in
-    ready-due _ (k .args .out .now) (subst (λ t. Ready limits (t .state)) (sym (takes f (c .before .before .before .before .before .before .if1 .left))) (file-ready (bytes d) (emptyGraph limits) empty-ready)) (k .pre)
+    ready-due _ (k .args .out .now) (subst (λ t. Ready limits (t .state)) (sym (takes d)) (file-ready (bytes d) (emptyGraph limits) empty-ready)) (k .pre)
 
 same-length : tie.Need-same-length
 same-length c = search needs
@@ -105,7 +97,7 @@ returns-2 c =
     let d = f .before .before .before .before .before .before .before in
     let k = entry d in
     let t = c .before .before .before .before .put-taken in
-    let p = subst (λ x. Put 0 x (k .args .out .now) (t .last .1 .1 .1 .1 .1 .1 .1 .1 .0) (t .result)) (ap (λ x. textOf (x .reply) (x .count) (x .state)) (takes f (c .before .before .before .before .before .before .before .before .before .before .before .if1 .left))) (t .ensures) in
+    let p = subst (λ x. Put 0 x (k .args .out .now) (t .last .1 .1 .1 .1 .1 .1 .1 .1 .0) (t .result)) (ap (λ x. textOf (x .reply) (x .count) (x .state)) (takes d)) (t .ensures) in
     ((bytes d, p), put-within _ (k .args .out .now) (t .last .1 .1 .1 .1 .1 .1 .1 .1 .0) (t .result) p)
 
 pub put-input-spec : {M : Type 1} → statement M

@@ -28,6 +28,12 @@ loop-less c = omega arith
 loop-again : tie.Need-loop-again Inv-loop μ-loop
 loop-again c = tt
 
+list-passed-requires : tie.Need-list-passed-requires Inv-loop μ-loop
+list-passed-requires c κs = tt
+
+list-refused-requires : tie.Need-list-refused-requires Inv-loop μ-loop
+list-refused-requires c κs = tt
+
 returns : tie.Need-returns Inv-loop μ-loop
 returns c = tt
 
@@ -43,4 +49,6 @@ main-spec =
     add-number
     loop-less
     loop-again
+    list-passed-requires
+    list-refused-requires
     returns)

@@ -1,42 +1,33 @@
--- `put_listing` meets its contract: sorting succeeds, and what follows is the text of the sorted graph.
-use mathlib.Core.Path.{_≡_, ap, subst}
+-- `put_listing` meets its contract: the steps leave a cut graph, and what follows is its text.
+use mathlib.Core.Path.{sym, ap, subst}
 use Rattle.rules.specs.Limits.{limits}
 use Rattle.rules.specs.State.{State}
-use Rattle.rules.specs.Stages.{sortedState}
-use Rattle.rules.specs.Listing.{sortedText}
-use Rattle.rules.proofs.Going.{sort-is, sort-went}
+use Rattle.rules.specs.Listing.{cutText}
 use Rattle.tables.specs.Regions.{stateIn}
-use Rattle.listing_text.specs.Buffer.{Put}
-use Rattle.calls.specs.Replies.{stepReply}
-use Rattle.listing_steps.proofs.Steps.{unrefused, leaves, sorted-due}
+use Rattle.lists.specs.Buffer.{Put}
+use Rattle.map_steps.specs.Stands.{Stands}
+use Rattle.map_steps.proofs.Steps.{mapped-stands}
+use Rattle.listing_steps.specs.Due.{Due}
 use borrow.Author.Needs.{needs}
 use Rattle.listing_steps.proofs.put_listing.Statement.{statement}
 use Rattle.listing_steps.proofs.put_listing.Tie as tie
-
--- the start, from where the step was made
-abbrev entry : tie.After-sort-edges → tie.Start
-entry c = c .before .before .before .before .before .before .before .before .before
 
 -- the state that the slices hold
 abbrev held : tie.Start → State
 held k = stateIn limits (k .args .graph) (k .args .floats .now) (k .args .numbers .now) (k .args .stars .now) (k .args .marks .now) (k .args .ids .now)
 
--- what sorting leaves
-sorts : (c : tie.After-sort-edges) → (let a = entry c .args in
-    stateIn limits (c .sort-edges .result .graph) (a .floats .now) (a .numbers .now) (c .sort-edges .last .1 .1 .1 .0) (a .marks .now) (a .ids .now)) ≡ sortedState (held (entry c))
-sorts c = let k = entry c in leaves _ _ _ _ _ (c .sort-edges .ensures) (sort-is limits (held k) (k .pre .held) (k .pre .here))
+-- the steps are due
+stands : (k : tie.Start) → Stands 0 (held k)
+stands k = record { held = k .pre .held; here = k .pre .here }
 
-sort-edges-requires : tie.Need-sort-edges-requires
-sort-edges-requires c κs = search needs
+cut-map-requires : tie.Need-cut-map-requires
+cut-map-requires c κs = stands (c .before .before .before .before .before .before .before .before)
 
-enum-told : tie.Need-enum-told
-enum-told c = search needs
-
-put-sorted-requires : tie.Need-put-sorted-requires
-put-sorted-requires c κs = let d = c .before .before .before .before .before .before .before .before in sorted-due (held (entry d)) _ (entry d .args .out .now) (entry d .pre) (sorts d)
-
-enum-told-2 : tie.Need-enum-told-2
-enum-told-2 c = search needs
+put-cut-requires : tie.Need-put-cut-requires
+put-cut-requires c κs =
+    let k = c .before .before .before .before .before .before .before .before .before .before .before .before .before .before .before .before in
+    let d = mapped-stands (held k) (stands k) in
+    subst (λ x. Due 3 x (k .args .out .now)) (sym (ap (λ m. m .state) (c .before .before .before .before .before .before .before .cut-map .ensures))) (record { held = d .held; here = d .here; room = k .pre .room })
 
 same-length : tie.Need-same-length
 same-length c = search needs
@@ -49,35 +40,17 @@ same-length-3 c = search needs
 
 returns : tie.Need-returns
 returns c =
-    let d = c .before .before .before .before .before .before .before .before .before .before .before .before .before .before .before in
-    let t = c .before .before .before .before .before .before .put-sorted in
-    subst (λ x. Put 0 x (entry d .args .out .now) (t .last .1 .1 .1 .1 .1 .1 .0) (t .result)) (ap sortedText (sorts d)) (t .ensures)
-
-same-length-4 : tie.Need-same-length-4
-same-length-4 c = search needs
-
-same-length-5 : tie.Need-same-length-5
-same-length-5 c = search needs
-
--- no step refuses what is sound and in its stage
-returns-2 : tie.Need-returns-2
-returns-2 c =
-    let d = c .before .before .before .before .before in
-    let k = entry d in
-    absurd (unrefused _ _ _ _ (d .sort-edges .ensures) (sort-went limits (held k) (k .pre .held) (k .pre .here) .goes .succeeds) _ (ap stepReply (c .enum-told2 .given .1)))
+    let k = c .before .before .before .before .before .before .before .before .before .before .before .before .before .before .before .before .before .before .before in
+    let t = c .before .before .put-cut in
+    subst (λ x. Put 0 x (k .args .out .now) (t .last .1 .1 .1 .1 .1 .1 .1 .1 .0) (t .result)) (ap (λ m. cutText (m .dangles) (m .cuts) (m .state)) (c .before .before .before .before .before .before .before .before .before .before .cut-map .ensures)) (t .ensures)
 
 pub put-listing-spec : {M : Type 1} → statement M
 put-listing-spec =
     tie.close
     (tie.spec
-    sort-edges-requires
-    enum-told
-    put-sorted-requires
-    enum-told-2
+    cut-map-requires
+    put-cut-requires
     same-length
     same-length-2
     same-length-3
-    returns
-    same-length-4
-    same-length-5
-    returns-2)
+    returns)

@@ -1,7 +1,7 @@
 -- `put_labelled` meets its contract: the text, and then the number.
 use Rattle.rules.specs.Decimal.{decimal}
 use Rattle.rules.specs.Lines.{labelled}
-use Rattle.listing_text.proofs.Buffers.{Left, left-all, left-room, left-fits, left-put, left-last}
+use Rattle.lists.proofs.Buffers.{Left, left-all, left-room, left-fits, left-put, left-last}
 use borrow.Author.Needs.{needs}
 use Rattle.listing_text.proofs.put_labelled.Statement.{statement}
 use Rattle.listing_text.proofs.put_labelled.Tie as tie

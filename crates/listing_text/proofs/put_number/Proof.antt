@@ -7,9 +7,9 @@ use native.Mathlib.Omega.{arith}
 use borrow.Author.Needs.{needs}
 use lib.ListN.{length, set, length-set}
 use Rattle.rules.specs.Decimal.{digit, decimal}
-use Rattle.listing_text.specs.Buffer.{written}
+use Rattle.lists.specs.Buffer.{written}
 use Rattle.listing_text.proofs.Decimals.{decimal-one, decimal-more, decimal-longer}
-use Rattle.listing_text.proofs.Buffers.{written-byte, written-last}
+use Rattle.lists.proofs.Buffers.{written-byte, written-last}
 use Rattle.listing_text.proofs.put_number.Statement.{statement}
 use Rattle.listing_text.proofs.put_number.Tie as tie
 

@@ -6,7 +6,7 @@ use lib.ListN.{length}
 use Rattle.rules.specs.Decimal.{ascii}
 use Rattle.rules.specs.Lines.{labelled, refusalLine}
 use Rattle.listing_text.proofs.Lengths.{refusal-short}
-use Rattle.listing_text.proofs.Buffers.{Left, left-all, left-room, left-fits, left-put, left-last}
+use Rattle.lists.proofs.Buffers.{Left, left-all, left-room, left-fits, left-put, left-last}
 use borrow.Author.Needs.{needs}
 use Rattle.listing_text.proofs.put_refusal.Statement.{statement}
 use Rattle.listing_text.proofs.put_refusal.Tie as tie

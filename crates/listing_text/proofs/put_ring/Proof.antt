@@ -9,10 +9,10 @@ use mir.Syntax.{w64}
 use mir.Val.{toZ, ofZ}
 use Rattle.rules.specs.Decimal.{ascii, signedDecimal}
 use Rattle.rules.specs.Lines.{labelled, spaced, startingNodes, ringLine}
-use Rattle.listing_text.proofs.Signs.{back}
+use Rattle.rules.proofs.Signs.{back}
 use Rattle.listing_text.proofs.Lengths.{ring-short}
 use Rattle.listing_text.proofs.Nodes.{ring-length}
-use Rattle.listing_text.proofs.Buffers.{Left, left-all, left-room, left-fits, left-put, left-last}
+use Rattle.lists.proofs.Buffers.{Left, left-all, left-room, left-fits, left-put, left-last}
 use borrow.Author.Needs.{needs}
 use Rattle.listing_text.proofs.put_ring.Statement.{statement}
 use Rattle.listing_text.proofs.put_ring.Tie as tie

@@ -7,7 +7,7 @@ use Prim.Native.Nat.{_+_, _-_, _<_, _≤_}
 use native.Mathlib.Omega.{arith}
 use lib.ListN.{length, getD, set, length-set}
 use lib.Seq.{paste, paste-zero, paste-suc}
-use Rattle.listing_text.proofs.Buffers.{paste-all}
+use Rattle.lists.proofs.Buffers.{paste-all}
 use Rattle.listing_text.proofs.put_text.Statement.{statement}
 use Rattle.listing_text.proofs.put_text.Tie as tie
 

@@ -1,96 +1,90 @@
--- `read_record` meets its contract, for all bytes and places: each return is the definition's case.
-use Prim.Native.Nat.{_+_}
-use mathlib.Core.Path.{sym, _∙_}
-use Rattle.rules.specs.SegmentFile.{segment}
-use Rattle.segment_file.proofs.Cases.{at-end, at-short, at-length, at-kind, at-segment}
+-- `read_record` meets its contract, for all bytes and places: the frame decides, and a segment is read where it stands.
+use native.Mathlib.Omega.{arith}
+use mathlib.Core.Path.{_≡_, sym, ap, subst, _∙_}
+use mathlib.Core.List.{List}
+use Prim.Native.Nat.{ℕ}
+use lib.ListN.{drop}
+use Rattle.frames.specs.Frames.{frameOf, Skips}
+use Rattle.frames.specs.declared.Frame.{Frame}
+use Rattle.rules.specs.Records.{frame}
+use Rattle.segment_file.proofs.Found.{by-frame, other-there, room, segment-there}
 use borrow.Author.Needs.{needs}
 use Rattle.segment_file.proofs.read_record.Statement.{statement}
 use Rattle.segment_file.proofs.read_record.Tie as tie
 
+-- the bytes left, from the place where the frame was read
+abbrev rest : tie.After-read-frame → List ℕ
+rest c = let a = c .before .before .args in drop (a .at) (a .bytes .now)
+
+-- the frame is a case of the code's
+seen : (c : tie.After-read-frame) (f : Frame) → c .read-frame .result ≡ f → frameOf f ≡ frame (rest c)
+seen c f e = sym (ap frameOf e) ∙ c .read-frame .ensures .0
+
+read-frame-requires : tie.Need-read-frame-requires
+read-frame-requires c κs = search needs
+
+enum-known-size : tie.Need-enum-known-size
+enum-known-size c = search needs
+
+segment-at-requires : tie.Need-segment-at-requires
+segment-at-requires c κs =
+    let f = c .before .before .before in
+    let a = f .before .before .args in
+    room (a .bytes .now) (a .at) _ (seen f _ (c .before .size .given .1))
+
+enum-known-size-2 : tie.Need-enum-known-size-2
+enum-known-size-2 c = search needs
+
+enum-known-size-3 : tie.Need-enum-known-size-3
+enum-known-size-3 c = search needs
+
+enum-told : tie.Need-enum-told
+enum-told c = search needs
+
+enum-known-why : tie.Need-enum-known-why
+enum-known-why c = search needs
+
 returns : tie.Need-returns
 returns c =
-    let a = c .before .before .args in
-    at-end (a .bytes .now) (a .at) (c .if1 .taken)
-
-sub-if2 : tie.Need-sub-if2
-sub-if2 c = search needs
+    let f = c .before .before .before .before in
+    let a = f .before .before .args in
+    segment-there (a .bytes .now) (a .at) _ (seen f _ (c .before .before .size .given .1)) _ (c .segment-at .ensures)
 
 returns-2 : tie.Need-returns-2
 returns-2 c =
-    let a = c .before .before .before .args in
-    at-short (a .bytes .now) (a .at) (c .before .if1 .left) (c .if2 .taken)
-
-le32-requires : tie.Need-le32-requires
-le32-requires c κs = search needs
-
-add-le16 : tie.Need-add-le16
-add-le16 c = search needs
-
-le16-requires : tie.Need-le16-requires
-le16-requires c κs = search needs
+    let f = c .before .before .before in
+    by-frame (rest f) _ (seen f _ (c .before .size2 .given .1))
 
 returns-3 : tie.Need-returns-3
 returns-3 c =
-    let d = c .before .before .before in
-    let a = d .before .before .before .args in
-    at-length (a .bytes .now) (a .at) (d .before .if1 .left) (d .if2 .left) (λ e. c .if3 .taken (c .before .before .le32 .ensures ∙ e))
+    let f = c .before .before .before in
+    let e = c .before .size3 .given .1 in
+    let k = subst Skips e (f .read-frame .ensures .1) in
+    other-there (rest f) _ _ (λ z. omega (arith, k)) (seen f _ e)
 
 returns-4 : tie.Need-returns-4
 returns-4 c =
     let f = c .before .before in
-    let d = f .before .before in
-    let a = d .before .before .before .args in
-    at-kind (a .bytes .now) (a .at) (d .before .if1 .left) (d .if2 .left) (sym (f .before .le32 .ensures) ∙ c .before .if3 .left)
-    (λ e. c .if4 .taken (f .le16 .ensures ∙ e))
-
-add-coord-at : tie.Need-add-coord-at
-add-coord-at c = search needs
-
-coord-at-requires : tie.Need-coord-at-requires
-coord-at-requires c κs = search needs
-
-add-coord-at-2 : tie.Need-add-coord-at-2
-add-coord-at-2 c = search needs
-
-coord-at-requires-2 : tie.Need-coord-at-requires-2
-coord-at-requires-2 c κs = search needs
-
-add-le32 : tie.Need-add-le32
-add-le32 c = search needs
-
-le32-requires-2 : tie.Need-le32-requires-2
-le32-requires-2 c κs = search needs
-
-add-t8 : tie.Need-add-t8
-add-t8 c = search needs
+    by-frame (rest f) _ (seen f _ (c .enum-told .given .1))
 
 returns-5 : tie.Need-returns-5
 returns-5 c =
-    let e = c .before .before .before in
-    let f = e .before .before in
-    let d = f .before .before in
-    let a = d .before .before .before .args in
-    (λ i. segment (record { start = c .before .before .coord-at .ensures i; end = c .before .coord-at2 .ensures i; «line_id» = c .le322 .ensures i }) (a .at + 58))
-    ∙ at-segment (a .bytes .now) (a .at) (d .before .if1 .left) (d .if2 .left) (sym (f .before .le32 .ensures) ∙ e .before .if3 .left)
-    (sym (f .le16 .ensures) ∙ e .if4 .left)
+    let f = c .before .before .before in
+    by-frame (rest f) _ (seen f _ (c .before .why .given .1))
 
 pub read-record-spec : {M : Type 1} → statement M
 read-record-spec =
     tie.close
     (tie.spec
+    read-frame-requires
+    enum-known-size
+    segment-at-requires
+    enum-known-size-2
+    enum-known-size-3
+    enum-told
+    enum-known-why
     returns
-    sub-if2
     returns-2
-    le32-requires
-    add-le16
-    le16-requires
     returns-3
     returns-4
-    add-coord-at
-    coord-at-requires
-    add-coord-at-2
-    coord-at-requires-2
-    add-le32
-    le32-requires-2
-    add-t8
     returns-5)

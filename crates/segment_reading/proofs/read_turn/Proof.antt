@@ -1,102 +1,126 @@
--- `read_turn` meets its contract: whatever bytes came, they stand in the buffer behind those that were kept, and their whole records are taken.
+-- `read_turn` meets its contract: whatever bytes came, they stand in the buffer behind those that were kept, and their records are taken.
 use Prim.Native.Nat.{ℕ, _+_, _-_, _≤_}
 use native.Mathlib.Omega.{arith}
-use mathlib.Core.Path.{_≡_, sym, ap, _∙_}
+use mathlib.Core.Path.{_≡_, sym, ap, subst, _∙_}
 use mathlib.Core.List.{List, _++_}
-use lib.ListN.{length, take, drop}
+use lib.ListN.{length, take, drop, length-append, length-drop}
 use lib.Seq.{length-take-le}
+use borrow.Author.Tests.{ltb-true}
 use Rattle.rules.specs.Limits.{limits}
 use Rattle.rules.specs.State.{State}
-use Rattle.rules.specs.SegmentFile.{readAt}
 use Rattle.tables.specs.Regions.{stateIn}
-use Rattle.intake.specs.Taking.{endReply}
-use Rattle.segment_reading.proofs.InParts.{short-taken, short-file, front-kept}
+use Rattle.intake.specs.Taking.{takeFile}
+use Rattle.intake.proofs.Left.{file-reached}
+use Rattle.segment_reading.specs.Reading.{bufferBytes, Turned}
+use Rattle.segment_reading.proofs.Waiting.{short-fits}
+use Rattle.segment_reading.proofs.Windows.{filled-window, rest-window}
 use borrow.Author.Needs.{needs}
 use Rattle.segment_reading.proofs.read_turn.Statement.{statement}
 use Rattle.segment_reading.proofs.read_turn.Tie as tie
-
--- the start, from the read
-abbrev entry : tie.After-read → tie.Start
-entry c = c .before .before .before .before .before .before .before .before
-
--- the buffer after it: the bytes that were kept, and what the read left behind them
-abbrev filled : tie.After-read → List ℕ
-filled c =
-    let a = entry c .args in
-    let old = a .buffer .now in
-    take (a .kept) old ++ (c .read .last .1 .0 ++ drop (length old - a .kept) (drop (a .kept) old))
-
--- those kept stay
-stays : (c : tie.After-read) → take (entry c .args .kept) (filled c) ≡ take (entry c .args .kept) (entry c .args .buffer .now)
-stays c = let k = entry c in front-kept (k .args .kept) (length (k .args .buffer .now) - k .args .kept) (k .args .buffer .now) (c .read .last .1 .0) (omega (arith, k .pre .1, k .pre .2))
 
 -- the state that the slices held
 abbrev held : tie.Start → State
 held k = stateIn limits (k .args .graph) (k .args .floats .now) (k .args .numbers .now) (k .args .stars .now) (k .args .marks .now) (k .args .ids .now)
 
-sub-read : tie.Need-sub-read
-sub-read c = search needs
+-- the bytes kept
+abbrev front : tie.Start → List ℕ
+front k = take (k .args .kept) (k .args .buffer .now)
 
-part-read-start : tie.Need-part-read-start
-part-read-start c = search needs
+counted : (k : tie.Start) → length (front k) ≡ k .args .kept
+counted k = length-take-le (k .args .kept) (k .args .buffer .now) (omega (arith, k .pre .1 .full, k .pre .1 .room))
 
-part-read-end : tie.Need-part-read-end
-part-read-end c = search needs
+-- the room behind them
+room-length : (k : tie.Start) → length (take (length (k .args .buffer .now) - k .args .kept) (drop (k .args .kept) (k .args .buffer .now))) ≡ bufferBytes - k .args .kept
+room-length k =
+    let old = k .args .buffer .now in
+    omega (arith, length-take-le (length old - k .args .kept) (drop (k .args .kept) old) (omega (arith, length-drop (k .args .kept) old)), k .pre .1 .full)
 
-read-requires : tie.Need-read-requires
-read-requires c κs = search needs
+-- ---- the read
+
+module _ (c : tie.After-read-some) where
+  abbrev start : tie.Start
+  start = c .before .before .before .before .before .before .before .before .before .before .before
+
+  -- the buffer after it: the bytes that were kept, and what the read left behind them
+  abbrev filled : List ℕ
+  filled = let old = start .args .buffer .now in front start ++ (c .read-some .last .1 .0 ++ drop (length old - start .args .kept) (drop (start .args .kept) old))
+
+  -- the bytes that came
+  abbrev came : List ℕ
+  came = take (c .read-some .result .got) (c .read-some .last .1 .0)
+
+  abbrev reach : ℕ
+  reach = start .args .kept + c .read-some .result .got
+
+  few : c .read-some .result .got ≤ bufferBytes - start .args .kept
+  few = omega (arith, c .read-some .ensures .within, room-length start)
+
+  came-length : length came ≡ c .read-some .result .got
+  came-length = length-take-le (c .read-some .result .got) (c .read-some .last .1 .0) (omega (arith, c .read-some .ensures .within, c .read-some .kept .1 .0))
+
+  filled-length : length filled ≡ bufferBytes
+  filled-length =
+      let old = start .args .buffer .now in
+      let last = c .read-some .last .1 .0 in
+      let back = drop (length old - start .args .kept) (drop (start .args .kept) old) in
+      omega (
+        arith,
+        length-append (front start) (last ++ back),
+        length-append last back,
+        counted start,
+        c .read-some .kept .1 .0,
+        room-length start,
+        length-drop (length old - start .args .kept) (drop (start .args .kept) old),
+        length-drop (start .args .kept) old,
+        start .pre .1 .full,
+        start .pre .1 .room,
+      )
+
+  reached : length (take reach filled) ≡ reach
+  reached = length-take-le reach filled (omega (arith, filled-length, few, start .pre .1 .room))
+
+  -- what stands in the buffer then
+  window : take reach filled ≡ front start ++ came
+  window = filled-window (start .args .kept) (c .read-some .result .got) (start .args .buffer .now) (c .read-some .last .1 .0) _ (omega (arith, start .pre .1 .full, start .pre .1 .room)) (omega (arith, c .read-some .ensures .within, c .read-some .kept .1 .0))
+
+-- ---- the records
+
+module _ (c : tie.After-take-records) where
+  abbrev read : tie.After-read-some
+  read = c .before .before .before .before .before .before .before .before .before .before
+
+  within : c .take-records .result .bytes ≤ reach read
+  within = omega (arith, ap (λ t. t .bytes) (c .take-records .ensures), file-reached limits (take (reach read) (filled read)) (held (start read)) .within, reached read)
+
+is-long-requires : tie.Need-is-long-requires
+is-long-requires c κs = search needs
+
+skip-turn-requires : tie.Need-skip-turn-requires
+skip-turn-requires c κs = (c .before .before .before .before .before .before .before .before .before .before .pre .1, sym (c .before .before .is-long .ensures) ∙ c .before .if1 .taken)
 
 same-length : tie.Need-same-length
 same-length c = search needs
 
 returns : tie.Need-returns
 returns c =
-    let d = c .before .before .before in
-    let k = c .before .before .before .before .before .before .before .before .before .before .before in
-    let room : k .args .kept + 0 ≤ length (filled d) = omega (arith, k .pre .1, k .pre .2, c .before .before .buffer .given .1) in
-    record {
-      room = room;
-      front = stays d;
-      took = sym (short-taken (take (k .args .kept + 0) (filled d)) (held k) (omega (arith, k .pre .1, length-take-le (k .args .kept + 0) (filled d) room)));
-    }
+    let k = c .before .before .before .before .before .before .before .before .before .before .before .before .before in
+    let x = c .before .before .skip-turn in
+    subst (λ g. Turned (front k) (x .last .1 .1 .0) (held k) (x .result) (stateIn limits g (k .args .floats .now) (k .args .numbers .now) (k .args .stars .now) (k .args .marks .now) (k .args .ids .now)))
+    (sym (x .ensures .0)) (x .ensures .1 (held k))
 
-slice-reshare-prefix-end-reply : tie.Need-slice-reshare-prefix-end-reply
-slice-reshare-prefix-end-reply c = search needs
+sub-read-some : tie.Need-sub-read-some
+sub-read-some c = search needs
 
-slice-aggregate-end-reply : tie.Need-slice-aggregate-end-reply
-slice-aggregate-end-reply c = sym (length-take-le _ _ (slice-reshare-prefix-end-reply (c .before)))
+part-read-some-start : tie.Need-part-read-some-start
+part-read-some-start c = search needs
 
-end-reply-requires : tie.Need-end-reply-requires
-end-reply-requires c κs = search needs
+part-read-some-end : tie.Need-part-read-some-end
+part-read-some-end c = search needs
 
-same-length-2 : tie.Need-same-length-2
-same-length-2 c = search needs
-
-returns-2 : tie.Need-returns-2
-returns-2 c =
-    let d = c .before .before .before .before .before .before in
-    let k = c .before .before .before .before .before .before .before .before .before .before .before .before .before .before in
-    let room : k .args .kept + 0 ≤ length (filled d) = omega (arith, k .pre .1, k .pre .2, c .before .before .before .before .before .buffer .given .1) in
-    let all : k .args .kept ≡ k .args .kept + 0 = omega arith in
-    record {
-      room = room;
-      front = stays d;
-      took = (λ i. record { reply = c .end-reply .ensures i; count = 0; state = held k })
-          ∙ ap (λ n. record { reply = endReply (readAt (take n (filled d)) 0); count = 0; state = held k }) all
-          ∙ sym (short-file (take (k .args .kept + 0) (filled d)) (held k) (omega (arith, k .pre .1, length-take-le (k .args .kept + 0) (filled d) room)));
-    }
-
-sub-count : tie.Need-sub-count
-sub-count c = search needs
-
-part-count-start : tie.Need-part-count-start
-part-count-start c = search needs
-
-part-count-end : tie.Need-part-count-end
-part-count-end c = search needs
-
-count-requires : tie.Need-count-requires
-count-requires c κs = search needs
+read-some-requires : tie.Need-read-some-requires
+read-some-requires c κs =
+    let k = c .before .before .before .before .before .before .before .before .before .before in
+    omega (arith, room-length k, counted k, short-fits (front k) (k .pre .1 .short) (sym (c .before .before .is-long .ensures) ∙ c .before .if1 .left))
 
 add-filled : tie.Need-add-filled
 add-filled c = search needs
@@ -105,10 +129,19 @@ slice-reshare-prefix-take-records : tie.Need-slice-reshare-prefix-take-records
 slice-reshare-prefix-take-records c = search needs
 
 slice-aggregate-take-records : tie.Need-slice-aggregate-take-records
-slice-aggregate-take-records c = sym (length-take-le _ _ (slice-reshare-prefix-take-records (c .before)))
+slice-aggregate-take-records c = sym (reached (c .before .before .before .before))
 
 take-records-requires : tie.Need-take-records-requires
 take-records-requires c κs = search needs
+
+keep-rest-requires : tie.Need-keep-rest-requires
+keep-rest-requires c κs =
+    let t = c .before .before .before .before .before .before .before .before .before .before .before .before in
+    let r = read t in
+    (within t, omega (arith, filled-length r, few r, start r .pre .1 .room))
+
+same-length-2 : tie.Need-same-length-2
+same-length-2 c = search needs
 
 same-length-3 : tie.Need-same-length-3
 same-length-3 c = search needs
@@ -125,47 +158,47 @@ same-length-6 c = search needs
 same-length-7 : tie.Need-same-length-7
 same-length-7 c = search needs
 
-same-length-8 : tie.Need-same-length-8
-same-length-8 c = search needs
-
-returns-3 : tie.Need-returns-3
-returns-3 c =
-    let d = c .before .before .before .before .before .before .before .before .before .before .before .before .before .before .before .before .before .before .before .before .before .before .before .before .before in
-    let k = c .before .before .before .before .before .before .before .before .before .before .before .before .before .before .before .before .before .before .before .before .before .before .before .before .before .before .before .before .before .before .before .before .before in
-    let n = c .before .before .before .before .before .before .before .before .before .before .before .before .before .before .before .before .before .before .count in
+returns-2 : tie.Need-returns-2
+returns-2 c =
+    let t = c .before .before .before .before .before .before .before .before .before .before .before .before .before .before .before in
+    let r = read t in
+    let x = c .before .before .keep-rest in
     record {
-      room = omega (arith, n .ensures .0 .0, c .before .before .before .before .before .before .before .before .before .before .before .before .before .before .before .before .before .before .before .count-arg .given .1, c .before .before .before .before .before .before .before .before .before .before .before .before .before .before .before .before .before .before .before .before .before .before .before .before .buffer .given .1);
-      front = stays d;
-      took = c .before .before .before .before .before .before .before .before .before .before .before .take-records .ensures;
+      came = came r;
+      size = came-length r;
+      few = omega (arith, few r);
+      some = λ w. ltb-true 0 (r .read-some .result .got) (sym (r .read-some .ensures .some) ∙ w);
+      used = t .take-records .result .bytes;
+      took = t .take-records .ensures ∙ ap (λ z. takeFile limits z (held (start r))) (window r);
+      room = omega (arith, x .ensures .0, x .kept .0, filled-length r, few r, start r .pre .1 .room);
+      rest = λ w.
+          x .ensures .1 .front
+          ∙ ap (λ n. take n (drop (t .take-records .result .bytes) (filled r))) (x .ensures .0)
+          ∙ rest-window (t .take-records .result .bytes) (reach r) (filled r) (within t) (omega (arith, filled-length r, few r, start r .pre .1 .room))
+          ∙ ap (drop (t .take-records .result .bytes)) (window r);
     }
 
 pub read-turn-spec : {M : Type 1} → statement M
 read-turn-spec =
     tie.close
     (tie.spec
-    sub-read
-    part-read-start
-    part-read-end
-    read-requires
+    is-long-requires
+    skip-turn-requires
     same-length
     returns
-    slice-reshare-prefix-end-reply
-    slice-aggregate-end-reply
-    end-reply-requires
-    same-length-2
-    returns-2
-    sub-count
-    part-count-start
-    part-count-end
-    count-requires
+    sub-read-some
+    part-read-some-start
+    part-read-some-end
+    read-some-requires
     add-filled
     slice-reshare-prefix-take-records
     slice-aggregate-take-records
     take-records-requires
+    keep-rest-requires
+    same-length-2
     same-length-3
     same-length-4
     same-length-5
     same-length-6
     same-length-7
-    same-length-8
-    returns-3)
+    returns-2)

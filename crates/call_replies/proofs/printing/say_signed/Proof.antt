@@ -9,7 +9,7 @@ use mir.Syntax.{w64}
 use mir.Val.{toZ, ofZ}
 use Rattle.rules.specs.Decimal.{signedDecimal}
 use Rattle.listing_text.proofs.Decimals.{signed-64}
-use Rattle.listing_text.proofs.Signs.{back}
+use Rattle.rules.proofs.Signs.{back}
 use borrow.Author.Needs.{needs}
 use Rattle.call_replies.proofs.printing.say_signed.Statement.{statement}
 use Rattle.call_replies.proofs.printing.say_signed.Tie as tie

@@ -1,11 +1,16 @@
 -- `take_record` meets its contract: what was read decides, and a segment is added to the chained graph.
-use mathlib.Core.Path.{sym, ap, _∙_}
+use Prim.Native.Nat.{ℕ}
+use mathlib.Core.Path.{_≡_, sym, ap, _∙_}
+use lib.ListN.{drop}
 use Rattle.geometry.specs.Reply.{refused}
 use Rattle.rules.specs.Limits.{limits}
 use Rattle.rules.specs.State.{State}
+use Rattle.rules.specs.Adding.{Outcome, Nothing, Added}
+use Rattle.rules.specs.SegmentFile.{segmentNext}
 use Rattle.tables.specs.Regions.{stateIn}
 use Rattle.segment_file.specs.Record.{readOf}
-use Rattle.intake.specs.Taking.{taken, takeRecord}
+use Rattle.segment_file.specs.declared.Record.{Record}
+use Rattle.intake.specs.Taking.{Rest, ended, Turned, afterAdding, takeRecord}
 use borrow.Author.Needs.{needs}
 use Rattle.intake.proofs.chained.take_record.Statement.{statement}
 use Rattle.intake.proofs.chained.take_record.Tie as tie
@@ -15,12 +20,22 @@ abbrev entry : tie.After-read-record → tie.Start
 entry c = c .before .before .before .before .before .before .before .before .before
 
 -- the place where its segment was added, from the one where the answer was turned
-abbrev added : tie.After-taken-reply → tie.After-add-chained
+abbrev added : tie.After-after-adding → tie.After-add-chained
 added c = c .before .before .before .before .before .before .before .before .before .before .before .before .before .before .before .before
 
 -- the state that the slices held
 abbrev held : tie.Start → State
 held k = stateIn limits (k .args .graph) (k .args .floats .now) (k .args .numbers .now) (k .args .stars .now) (k .args .marks .now) (k .args .ids .now)
+
+-- what was read is what the definition finds
+seen : (c : tie.After-read-record) (r : Record) → c .read-record .result ≡ r
+    → (let k = entry c in takeRecord limits (readOf r) (held k) ≡ takeRecord limits (segmentNext (drop (k .args .at) (k .args .bytes .now))) (held k))
+seen c r e = ap (λ f. takeRecord limits f (held (entry c))) (sym (ap readOf e) ∙ c .read-record .ensures)
+
+-- a segment's turn, from what its addition left
+added-turn : (rest : Rest) (size : ℕ) (o p : Outcome Added Nothing) → rest ≡ afterAdding (o .reply) size → o ≡ p
+    → _≡_ {A = Turned} (record { rest = rest; state = o .state }) (record { rest = afterAdding (p .reply) size; state = p .state })
+added-turn rest size o p e f = (λ i. record { rest = e i; state = o .state }) ∙ ap (λ q. record { rest = afterAdding (q .reply) size; state = q .state }) f
 
 read-record-requires : tie.Need-read-record-requires
 read-record-requires c κs = search needs
@@ -31,8 +46,11 @@ enum-known-line c = search needs
 add-chained-requires : tie.Need-add-chained-requires
 add-chained-requires c κs = entry (c .before .before .before .before .before .before .before .before .before .before) .pre
 
-taken-reply-requires : tie.Need-taken-reply-requires
-taken-reply-requires c κs = search needs
+after-adding-requires : tie.Need-after-adding-requires
+after-adding-requires c κs = search needs
+
+enum-known-size : tie.Need-enum-known-size
+enum-known-size c = search needs
 
 enum-known-why : tie.Need-enum-known-why
 enum-known-why c = search needs
@@ -69,26 +87,26 @@ returns c =
     let a = added c in
     let n = a .before .before .before .before .before .before .before .before .before in
     let d = n .before .before in (
-      (λ i. record { reply = c .taken-reply .ensures i; state = a .add-chained .ensures .0 0 .state; lists = record {} })
-          ∙ ap taken (a .add-chained .ensures .0)
-          ∙ ap (λ r. takeRecord limits r (held (entry d))) (sym (ap readOf (n .line .given .1)) ∙ d .read-record .ensures),
+      added-turn _ _ _ _ (c .after-adding .ensures) (a .add-chained .ensures .0) ∙ seen d _ (n .line .given .1),
       a .add-chained .ensures .1,
     )
 
 returns-2 : tie.Need-returns-2
 returns-2 c =
-    let d = c .before .before .before .before in (
-      (λ i. record { reply = refused (c .file-number .ensures i); state = held (entry d); lists = record {} })
-          ∙ ap (λ r. takeRecord limits r (held (entry d))) (sym (ap readOf (c .before .before .why .given .1)) ∙ d .read-record .ensures),
-      entry d .pre .1,
-    )
+    let d = c .before .before .before in
+    (seen d _ (c .before .size .given .1), entry d .pre .1)
 
 returns-3 : tie.Need-returns-3
 returns-3 c =
-    let d = c .before .before in (
-      ap (λ r. takeRecord limits r (held (entry d))) (sym (ap readOf (c .enum-told .given .1)) ∙ d .read-record .ensures),
+    let d = c .before .before .before .before in (
+      (λ i. record { rest = ended (refused (c .file-number .ensures i)); state = held (entry d) }) ∙ seen d _ (c .before .before .why .given .1),
       entry d .pre .1,
     )
+
+returns-4 : tie.Need-returns-4
+returns-4 c =
+    let d = c .before .before in
+    (seen d _ (c .enum-told .given .1), entry d .pre .1)
 
 pub take-record-spec : {M : Type 1} → statement M
 take-record-spec =
@@ -97,7 +115,8 @@ take-record-spec =
     read-record-requires
     enum-known-line
     add-chained-requires
-    taken-reply-requires
+    after-adding-requires
+    enum-known-size
     enum-known-why
     file-number-requires
     enum-told
@@ -110,4 +129,5 @@ take-record-spec =
     same-length-7
     returns
     returns-2
-    returns-3)
+    returns-3
+    returns-4)

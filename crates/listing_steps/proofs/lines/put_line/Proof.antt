@@ -7,9 +7,9 @@ use lib.ListN.{length, getD}
 use lib.Ieee.{nan}
 use mir.Syntax.{w64}
 use mir.Val.{toZ, ofZ}
-use Rattle.listing_text.proofs.Signs.{back}
+use Rattle.rules.proofs.Signs.{back}
 use Rattle.rules.specs.Face.{Ring}
-use Rattle.listing_text.specs.Buffer.{Put}
+use Rattle.lists.specs.Buffer.{Put}
 use Rattle.rules.specs.Listing.{noRing}
 use Rattle.ring_lists.specs.Shown.{HalfOf, Shown}
 use Rattle.listing_steps.proofs.RingTexts.{line-is}

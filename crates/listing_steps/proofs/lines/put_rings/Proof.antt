@@ -5,7 +5,7 @@ use mathlib.Core.Path.{_≡_, refl, subst, _∙_}
 use mathlib.Core.List.{List}
 use lib.ListN.{length, getD}
 use Rattle.rules.specs.Face.{Ring}
-use Rattle.listing_text.specs.Buffer.{Put}
+use Rattle.lists.specs.Buffer.{Put}
 use Rattle.rules.specs.Listing.{linesOf}
 use Rattle.ring_lists.specs.Shown.{Shown}
 use Rattle.listing_steps.proofs.RingTexts.{no-lines, one-line, line-room}

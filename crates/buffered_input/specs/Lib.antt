@@ -1,0 +1,2 @@
+-- What reads bring, what is kept of them and what is dropped.
+pub mod Reads

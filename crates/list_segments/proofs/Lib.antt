@@ -1,2 +1,0 @@
--- How far a text in a buffer reaches.
-pub mod Texts

@@ -1,0 +1,3 @@
+-- The two calls, case by case.
+pub mod Writing
+pub mod Reading

@@ -1,0 +1,2 @@
+-- What is written for the program's input.
+pub mod Output

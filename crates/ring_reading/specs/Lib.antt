@@ -1,0 +1,3 @@
+-- What the code's answers say in the definitions' words.
+pub mod Found
+pub mod Taken

@@ -1,0 +1,2 @@
+-- Laws on the records of rings that lists hold.
+pub mod Records

@@ -1,0 +1,2 @@
+-- No ring of a sound graph is empty.
+pub mod Rings

@@ -1,0 +1,2 @@
+-- The ring file of a graph that was built.
+pub mod File

@@ -1,0 +1,44 @@
+-- `put_u16` meets its contract: two stores.
+use native.Mathlib.Omega.{arith}
+use lib.ListN.{length-set}
+use Rattle.ring_writing.proofs.Bytes.{put-word}
+use borrow.Author.Needs.{needs}
+use Rattle.ring_writing.proofs.numbers.put_u16.Statement.{statement}
+use Rattle.ring_writing.proofs.numbers.put_u16.Tie as tie
+
+cast-out : tie.Need-cast-out
+cast-out c = search needs
+
+slice-write-out : tie.Need-slice-write-out
+slice-write-out c = search needs
+
+cast-out-2 : tie.Need-cast-out-2
+cast-out-2 c = search needs
+
+add-out : tie.Need-add-out
+add-out c = search needs
+
+slice-write-out-2 : tie.Need-slice-write-out-2
+slice-write-out-2 c = rw length-set (omega arith)
+
+add-result : tie.Need-add-result
+add-result c = search needs
+
+same-length : tie.Need-same-length
+same-length c = search needs
+
+returns : tie.Need-returns
+returns c = put-word (c .args .at) (c .args .n) (c .args .out .now) (c .fits .n .fits) (c .pre)
+
+pub put-u16-spec : {M : Type 1} → statement M
+put-u16-spec =
+    tie.close
+    (tie.spec
+    cast-out
+    slice-write-out
+    cast-out-2
+    add-out
+    slice-write-out-2
+    add-result
+    same-length
+    returns)

@@ -1,0 +1,2 @@
+-- Rings lent as lists, by their places.
+pub mod Rings
