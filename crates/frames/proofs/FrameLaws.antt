@@ -9,14 +9,10 @@ use lib.Dec.{eqb, ltb}
 use lib.ListN.{length, take, drop, length-drop, length-append}
 use lib.Seq.{take-append-le, drop-append-le}
 use Rattle.geometry.specs.Reply.{Reply, refused, success}
-use Rattle.lists.proofs.Counts.{by-lt, true-is-false}
+use Rattle.lists.proofs.Counts.{by-lt}
+use Rattle.lists.proofs.Tests.{neither}
 use Rattle.rules.specs.Records.{Found, taken, passed, wrong, end, littleEndian, field, pickFound, cutShort, wrongLength, knownKind, wholeFrame, frame, told, byKind, readNext}
 use Rattle.frames.proofs.Cases.{whole-none, frame-whole}
-
--- neither test holds
-neither : (a b : Bool) → (a || b) ≡ false → (a ≡ false) × (b ≡ false)
-neither true b e = absurd (true-is-false e)
-neither false b e = (refl, e)
 
 -- ---- a record is there to its end
 

@@ -4,32 +4,19 @@ ghost use lib.ListN.{length};
 ghost use Rattle.rules.specs.Limits.{limits};
 ghost use Rattle.listing_steps.specs.Rooms.{listingRoom};
 ghost use Rattle.list_segments.specs.Printing.{Prints, Ends};
-use libc::STDERR_FILENO;
 use listing_steps::LISTING_ROOM;
 use tables::FLOATS;
 use tables::IDS;
 use tables::MARKS;
 use tables::NUMBERS;
 use tables::STARS;
+use written_output::complain;
+use written_output::write_front;
 
 // What was written for the input: a text of so many bytes, or nothing, since a read failed.
 enum Printed {
     Text(usize),
     Failed,
-}
-
-// Says on standard error what failed. Nothing is printed in its place.
-fn complain(what: &[u8]) {
-    io::write_all(STDERR_FILENO, what);
-}
-
-// Writes the first bytes of a text.
-fn write_text(output: i32, text: &[u8], size: usize)
-    requires { ⌜ size ≤ length (now text) ⌝ }
-{
-    if !io::write_all(output, &text[..size]) {
-        complain(b"write error\n");
-    }
 }
 
 // Reads the input and writes its text to the front of `out`. A read that failed is no end of the
@@ -77,7 +64,7 @@ fn put_input(input: i32, out: &mut [u8]) -> Printed
 pub fn list(input: i32, output: i32) {
     let mut text = [0u8; LISTING_ROOM];
     match put_input(input, &mut text) {
-        Printed::Text(size) => write_text(output, &text, size),
+        Printed::Text(size) => write_front(output, &text, size),
         Printed::Failed => complain(b"read error\n"),
     }
 }

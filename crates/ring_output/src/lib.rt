@@ -18,6 +18,8 @@ use tables::MARKS;
 use tables::NUMBERS;
 use tables::PlanarGraph;
 use tables::STARS;
+use written_output::complain;
+use written_output::write_front;
 
 // What stands in the buffer for the input: a ring file of so many bytes, the line of a refusal, or
 // nothing, since a read failed.
@@ -25,20 +27,6 @@ enum Output {
     File(usize),
     Refusal(usize),
     Failed,
-}
-
-// Says on standard error what failed.
-fn complain(what: &[u8]) {
-    io::write_all(STDERR_FILENO, what);
-}
-
-// Writes the first bytes of a buffer.
-fn write_front(output: i32, buffer: &[u8], size: usize)
-    requires { ⌜ size ≤ length (now buffer) ⌝ }
-{
-    if !io::write_all(output, &buffer[..size]) {
-        complain(b"write error\n");
-    }
 }
 
 // What was taken from a file, at the front of `out`: the line of the refusal that record `records` met,

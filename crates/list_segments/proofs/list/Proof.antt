@@ -14,11 +14,11 @@ put-input-requires c κs = search needs
 enum-known-size : tie.Need-enum-known-size
 enum-known-size c = search needs
 
-slice-aggregate-write-text : tie.Need-slice-aggregate-write-text
-slice-aggregate-write-text c = search needs
+slice-aggregate-write-front : tie.Need-slice-aggregate-write-front
+slice-aggregate-write-front c = search needs
 
-write-text-requires : tie.Need-write-text-requires
-write-text-requires c κs =
+write-front-requires : tie.Need-write-front-requires
+write-front-requires c κs =
     let x = c .before .before .before .before .before .put-input in
     subst (λ r. Ends r (x .last .1 .0)) (c .before .before .size .given .1) (x .ensures .1)
 
@@ -44,8 +44,8 @@ list-spec =
     slice-aggregate-put-input
     put-input-requires
     enum-known-size
-    slice-aggregate-write-text
-    write-text-requires
+    slice-aggregate-write-front
+    write-front-requires
     enum-told
     slice-aggregate-complain
     complain-requires

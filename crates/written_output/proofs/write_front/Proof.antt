@@ -1,12 +1,12 @@
--- `write_text` is safe: the first bytes are within the text.
+-- `write_front` is safe: the first bytes are within the buffer.
 use mathlib.Core.Path.{sym}
 use lib.Seq.{length-take-le}
 use borrow.Author.Needs.{needs}
-use Rattle.list_segments.proofs.write_text.Statement.{statement}
-use Rattle.list_segments.proofs.write_text.Tie as tie
+use Rattle.written_output.proofs.write_front.Statement.{statement}
+use Rattle.written_output.proofs.write_front.Tie as tie
 
 slice-aggregate-write-all : tie.Need-slice-aggregate-write-all
-slice-aggregate-write-all c = sym (length-take-le (c .before .before .args .size) (c .before .before .args .text .now) (c .before .before .pre))
+slice-aggregate-write-all c = sym (length-take-le (c .before .before .args .size) (c .before .before .args .buffer .now) (c .before .before .pre))
 
 write-all-requires : tie.Need-write-all-requires
 write-all-requires c κs = search needs
@@ -23,8 +23,8 @@ returns c = search needs
 returns-2 : tie.Need-returns-2
 returns-2 c = search needs
 
-pub write-text-spec : {M : Type 1} → statement M
-write-text-spec =
+pub write-front-spec : {M : Type 1} → statement M
+write-front-spec =
     tie.close
     (tie.spec
     slice-aggregate-write-all
