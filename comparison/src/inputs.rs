@@ -328,17 +328,20 @@ pub fn any_calls(length: usize, random: &mut Random) -> Vec<Line> {
     lines
 }
 
-/// The most ids that each edge of sound tables has: with any number of edges there is space.
-const IDS_AN_EDGE: usize = PAIR_LIMIT / EDGE_LIMIT;
+/// The most ids that each of so many edges of sound tables has: four, or as many as there is space for.
+fn ids_an_edge(edges: usize) -> usize {
+    (PAIR_LIMIT / edges.max(1)).min(4)
+}
 
 /// A list of line ids for each of so many edges, its pairs anywhere in the part of the table that so
 /// many edges can fill.
 fn sound_lists(edges: usize, random: &mut Random) -> Vec<Line> {
     let mut lines = Vec::new();
-    let mut places: Vec<usize> = (0..IDS_AN_EDGE * edges).collect();
+    let most = ids_an_edge(edges);
+    let mut places: Vec<usize> = (0..most * edges).collect();
     random.shuffle(&mut places);
     for edge in 0..edges {
-        let count = 1 + random.below(IDS_AN_EDGE);
+        let count = 1 + random.below(most);
         let mut list = places.split_off(places.len() - count);
         let mut id = random.below(9);
         lines.extend([set(LINE_IDS, edge, id), set(LIST_PLACES, edge, list[0])]);

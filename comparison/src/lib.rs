@@ -4,6 +4,7 @@
 //! the counts and the stage, and every entry of every table and list are compared, written or not.
 
 pub mod files;
+pub mod full;
 pub mod inputs;
 pub mod islands;
 pub mod random;

@@ -1,11 +1,12 @@
 //! Call lists: wrong stages, refusals, short tables and lists, full tables, damaged tables, and
 //! sound tables that additions cannot make.
 
+use comparison::full;
 use comparison::inputs::{self, STEPS};
 use comparison::random::Random;
 use comparison::Comparison;
 use oracle::calls::Line;
-use oracle::state::{Call, Lent, Reply, State, HOLES};
+use oracle::state::{Call, Lent, Reply, State, EDGE_LIMIT, HOLES, NODE_LIMIT};
 
 #[test]
 fn any_calls() {
@@ -18,18 +19,18 @@ fn any_calls() {
     println!("{:?}", both.tally);
 }
 
-/// 512 separate segments fill the nodes, a dense map the edges; then lines with new ends, between
-/// old nodes and along old edges, before and after a reset.
+/// Separate segments, half as many as there may be nodes, fill the nodes, a dense map the edges, a ring
+/// both; then lines with new ends, between old nodes and along old edges, before and after a reset.
 #[test]
 fn full_tables() {
     let mut both = Comparison::default();
     let mut random = Random::new(5);
-    let separate: Vec<_> = (0..512).map(|x| [[x, 0], [x, 1]]).collect();
     for map in [
-        separate,
-        inputs::complete(46),
-        inputs::star(1023),
-        inputs::path(1023),
+        full::separate(NODE_LIMIT / 2),
+        full::dense(EDGE_LIMIT),
+        full::ring(NODE_LIMIT.min(EDGE_LIMIT)),
+        inputs::star(NODE_LIMIT - 1),
+        inputs::path(NODE_LIMIT as i32 - 1),
     ] {
         for fewer in 0..3 {
             let mut lines = inputs::traced(&map[..map.len() - fewer]);
@@ -89,8 +90,8 @@ fn sound_tables() {
     let mut random = Random::new(7);
     for number in 0..8000 {
         let (nodes, edges) = match number % 400 {
-            0 => (1024, 1024),
-            1 => (40, 600),
+            0 => (NODE_LIMIT, EDGE_LIMIT),
+            1 => (40, EDGE_LIMIT / 2),
             _ => (2 + random.below(8), random.below(16)),
         };
         let mut lines = inputs::sound_tables(nodes, edges, &mut random);
@@ -135,8 +136,9 @@ fn longer_tables() {
     tables.edges_line_id.extend([7; 9]);
     tables.pairs_id.extend([7; 9]);
     let mut both = Comparison::over(state);
-    both.run(&inputs::whole_run(&inputs::grid(22, 22, 1)));
-    both.run(&inputs::whole_run(&inputs::complete(46)));
+    both.run(&inputs::whole_run(&full::grid(EDGE_LIMIT)));
+    both.run(&inputs::whole_run(&full::dense(EDGE_LIMIT + 1)));
+    both.run(&inputs::whole_run(&inputs::star(NODE_LIMIT)));
 }
 
 /// Each ring list alone one entry short, and each at its least length.

@@ -1,11 +1,12 @@
 //! A segment file in one call of the library, beside the oracle that adds its records one by one.
 
 use comparison::files::{compare, empty, records};
+use comparison::full;
 use comparison::inputs::{self, Segment, BOUND, STEPS};
 use comparison::random::Random;
 use oracle::original::Line3D;
 use oracle::records::record;
-use oracle::state::{Lent, Side, TABLES};
+use oracle::state::{Lent, Side, EDGE_LIMIT, NODE_LIMIT, TABLES};
 use oracle::Oracle;
 
 fn file(map: &[Segment]) -> Vec<u8> {
@@ -31,14 +32,13 @@ fn maps() {
     for map in [
         Vec::new(),
         inputs::grid(22, 22, 1),
-        inputs::complete(46),
-        inputs::star(1023),
-        inputs::star(1024),
-        inputs::path(1024),
+        full::dense(EDGE_LIMIT + 10),
+        inputs::star(NODE_LIMIT),
+        inputs::path(NODE_LIMIT as i32),
         inputs::overlaps(40),
         inputs::extremes(),
         inputs::random_map(1200, 60, 8, &mut random),
-        inputs::random_map(1100, 900, BOUND, &mut random),
+        inputs::random_map(EDGE_LIMIT * 9 / 8, NODE_LIMIT * 7 / 8, BOUND, &mut random),
     ] {
         let turned = map.iter().map(|&[a, b]| [b, a]);
         let twice: Vec<_> = map.iter().copied().chain(turned).collect();
@@ -46,6 +46,15 @@ fn maps() {
             let (answer, _) = compare(&empty(), &file(&map), &Lent::FULL);
             assert!(answer.is_ok(), "an empty graph");
         }
+    }
+}
+
+/// Full tables of each kind are taken to the file's end.
+#[test]
+fn full_maps() {
+    for map in full::maps(&mut Random::new(61)) {
+        let (answer, _) = compare(&empty(), &file(&map), &Lent::FULL);
+        assert_eq!(answer, Ok([map.len() as u64, 0]));
     }
 }
 
@@ -71,8 +80,8 @@ fn stopped(good: &[Segment], bad: &[u8]) -> u64 {
 
 #[test]
 fn bad_records() {
-    let separate: Vec<Segment> = (0..512).map(|x| [[x, 0], [x, 1]]).collect();
-    let dense = &inputs::complete(46)[..1024];
+    let separate = full::separate(NODE_LIMIT / 2);
+    let dense = &full::dense(EDGE_LIMIT);
     let far = file(&[[[BOUND - 1, 5], [BOUND, 7]]]);
     let good = file(&[[[1, 0], [0, 1]]]);
     assert_eq!(stopped(&separate, &far), 3);

@@ -250,15 +250,15 @@ fn random_loops() {
     assert!(found.iter().all(|&count| count > 2000));
 }
 
-/// Many loops at once.
+/// So many loops at once that they need nearly all edges, or a few more.
 #[test]
 fn random_full_maps() {
     let mut random = Random::new(52);
     let mut both = Comparison::default();
     for size in [12, 30, 100, 1000] {
-        let loops = islands::any_islands(250, size, &mut random);
+        let loops = islands::any_islands(EDGE_LIMIT / 4, size, &mut random);
         records(&traced(&segments(&loops)), &mut both);
-        let loops = islands::any_loops(200, size, &mut random);
+        let loops = islands::any_loops(EDGE_LIMIT / 5, size, &mut random);
         records(&traced(&segments(&loops)), &mut both);
     }
     println!("{:?}", both.tally);

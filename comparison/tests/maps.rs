@@ -1,8 +1,10 @@
 //! Maps from segments to rings: all small ones, and the families that a tracing can be of.
 
+use comparison::full;
 use comparison::inputs::{self, Segment};
 use comparison::random::Random;
 use comparison::Comparison;
+use oracle::state::{EDGE_LIMIT, NODE_LIMIT};
 
 /// Every set of segments between the six points x 0 to 2, y 0 to 1, in a random order and turned
 /// at random.
@@ -20,38 +22,39 @@ fn all_edge_sets_on_six_points() {
     println!("{:?}", both.tally);
 }
 
+/// Small maps and middling ones, and maps that need more than there may be: their last additions are
+/// refused.
 fn families(random: &mut Random) -> Vec<Vec<Segment>> {
     let mut maps = vec![
         inputs::extremes(),
         inputs::complete(12),
-        inputs::complete(46),
+        full::dense(EDGE_LIMIT + 10),
         inputs::overlaps(7),
         inputs::overlaps(40),
         inputs::grid(22, 22, 1),
         inputs::grid(5, 3, 131_072),
         inputs::nested_squares(1),
-        inputs::nested_squares(256),
         inputs::touching_squares(3),
-        inputs::touching_squares(250),
         inputs::path(1),
-        inputs::path(1023),
-        inputs::path(1024),
+        inputs::path(NODE_LIMIT as i32),
     ];
     for count in [1, 2, 5, 60] {
         maps.push(inputs::touching_triangles(count, false));
         maps.push(inputs::touching_triangles(count, true));
     }
-    for spokes in [1, 2, 3, 8, 33, 200, 1023, 1024] {
+    for spokes in [1, 2, 3, 8, 33, 200, NODE_LIMIT] {
         maps.push(inputs::star(spokes));
     }
+    let (more_edges, more_nodes) = (EDGE_LIMIT * 9 / 8, NODE_LIMIT * 9 / 8);
     for (edges, points, size) in [
         (20, 8, 3),
         (60, 12, 3),
         (64, 40, 1000),
         (256, 100, 12),
         (1200, 60, 8),
-        (1100, 1200, 20),
-        (1100, 900, inputs::BOUND),
+        (more_edges, more_nodes, 20),
+        (more_edges, NODE_LIMIT * 7 / 8, inputs::BOUND),
+        (more_nodes, 2 * more_nodes, inputs::BOUND),
     ] {
         maps.push(inputs::random_map(edges, points, size, random));
     }
@@ -74,6 +77,36 @@ fn families_of_maps() {
         }
     }
     println!("{:?}", both.tally);
+}
+
+/// Full tables of each kind, as drawn and in another order and turned, through all steps.
+#[test]
+fn full_maps() {
+    let mut both = Comparison::default();
+    let mut random = Random::new(60);
+    for map in full::maps(&mut random) {
+        both.run(&inputs::whole_run(&map));
+        both.run(&inputs::whole_run(&inputs::shuffled(map, &mut random)));
+    }
+    println!("{:?}", both.tally);
+    assert_eq!(both.tally.refused, 0);
+}
+
+/// The areas of a full ring around the coordinate bound are exact.
+#[test]
+fn large_areas() {
+    let map = full::winding(NODE_LIMIT.min(EDGE_LIMIT));
+    let mut both = Comparison::default();
+    both.run(&inputs::whole_run(&map));
+    let term = |&[a, b]: &Segment| {
+        let [[x1, y1], [x2, y2]] = [a, b].map(|end| end.map(i128::from));
+        x1 * y2 - x2 * y1
+    };
+    let doubled: i128 = map.iter().map(term).sum();
+    assert!(doubled > map.len() as i128 * i128::from(inputs::BOUND).pow(2));
+    let areas = &both.states()[0].lists.ring_area[..2];
+    let listed: Vec<i128> = areas.iter().map(|area| (2.0 * area) as i128).collect();
+    assert_eq!(listed, [doubled, -doubled]);
 }
 
 #[test]

@@ -4,8 +4,8 @@
 use crate::original::Line3D;
 
 /// The most nodes and edges that a graph may have.
-pub const NODE_LIMIT: usize = 1024;
-pub const EDGE_LIMIT: usize = 1024;
+pub const NODE_LIMIT: usize = 2048;
+pub const EDGE_LIMIT: usize = 2048;
 
 /// The most pairs of a line id and a next place, for the lists of all edges together.
 pub const PAIR_LIMIT: usize = 4096;

@@ -3,7 +3,7 @@
 //! checks more, and the tests that say so end in its panic.
 
 use oracle::original::{steps, Coord3D, Line3D, PlanarGraph};
-use oracle::state::{Call, Lent, Reply, Side, State, LIST_END, PAIR_LIMIT};
+use oracle::state::{Call, Lent, Reply, Side, State, EDGE_LIMIT, LIST_END, NODE_LIMIT, PAIR_LIMIT};
 use oracle::{calls, listing, records, rules, Oracle};
 
 fn line(x1: f64, y1: f64, x2: f64, y2: f64, line_id: u32) -> Line3D {
@@ -70,31 +70,32 @@ fn a_loop() {
     );
 }
 
-/// Refusal 4: the original grows past 1,024 edges. 46 points have 1,035 pairs.
+/// Refusal 4: the original grows past the limit of edges. Points that are joined to all before them have
+/// many edges and few nodes.
 #[test]
 fn no_limit_of_edges() {
     let mut graph = PlanarGraph::new();
     let mut oracle = Oracle::default();
     let at = |place: u32| (f64::from(place), f64::from(place * place));
-    let pairs = (0..46).flat_map(|a| (a + 1..46).map(move |b| [at(a), at(b)]));
-    for (edge, [(x1, y1), (x2, y2)]) in pairs.enumerate() {
+    let pairs = (1..).flat_map(|b| (0..b).map(move |a| [at(a), at(b)]));
+    for (edge, [(x1, y1), (x2, y2)]) in pairs.take(EDGE_LIMIT + 2).enumerate() {
         let segment = line(x1, y1, x2, y2, 1);
         assert_eq!(graph.add_line(segment), edge);
         let reply = oracle.call(&Call::Add(segment), &Lent::FULL);
-        assert_eq!(reply == Reply::Refused(4), edge >= 1024);
+        assert_eq!(reply == Reply::Refused(4), edge >= EDGE_LIMIT);
     }
 }
 
-/// Refusal 3: the original grows past 1,024 nodes.
+/// Refusal 3: the original grows past the limit of nodes. A star has one node more than spokes.
 #[test]
 fn no_limit_of_nodes() {
     let mut graph = PlanarGraph::new();
     let mut oracle = Oracle::default();
-    for edge in 0..1025 {
-        let spoke = line(0.0, 0.0, 1.0, f64::from(edge), 1);
-        assert_eq!(graph.add_line(spoke), edge as usize);
+    for edge in 0..=NODE_LIMIT {
+        let spoke = line(0.0, 0.0, 1.0, edge as f64, 1);
+        assert_eq!(graph.add_line(spoke), edge);
         let reply = oracle.call(&Call::Add(spoke), &Lent::FULL);
-        assert_eq!(reply == Reply::Refused(3), edge >= 1023);
+        assert_eq!(reply == Reply::Refused(3), edge >= NODE_LIMIT - 1);
     }
 }
 

@@ -1,6 +1,8 @@
 //! The order of refusals, and every kind of damage in the soundness list.
 
-use oracle::state::{LIST_END, PAIR_LIMIT, TABLES};
+use oracle::state::{
+    EDGE_LIMIT, HOLE_LIST_LENGTH, LIST_END, LIST_LENGTH, NODE_LIMIT, PAIR_LIMIT, TABLES,
+};
 use oracle::{calls, Oracle};
 
 /// A triangle on three nodes.
@@ -57,14 +59,16 @@ fn order_of_a_step() {
 #[test]
 fn order_of_ring_extraction() {
     let cut = "sort\nprune\ncut\n";
+    let [all, all_holes] = [LIST_LENGTH, HOLE_LIST_LENGTH];
+    let hole = "hole 1 holder 65535 doubled -12";
     for (lines, reply) in [
         ("set 9 0 1\nlist 0\nholes 0\nshort 10", "refused 6"),
         ("set 9 0 1\nlist 0\nholes 0", "refused 7"),
         ("list 5\nholes 0", "refused 8"),
         ("list 6\nholes 0", "refused 13"),
-        ("holes 0\nlist 2048", "refused 13"),
-        ("holes 1\nlist 6", "hole 1 holder 65535 doubled -12"),
-        ("holes 0\nholes 1024", "hole 1 holder 65535 doubled -12"),
+        (&format!("holes 0\nlist {all}"), "refused 13"),
+        ("holes 1\nlist 6", hole),
+        (&format!("holes 0\nholes {all_holes}"), hole),
     ] {
         assert_eq!(last(&format!("{cut}{lines}\nrings")), reply, "{lines}");
     }
@@ -85,8 +89,8 @@ fn every_table_is_measured() {
 #[test]
 fn every_damage_is_found() {
     for damage in [
-        "graph 1025 3 0",
-        "graph 3 1025 0",
+        &format!("graph {} 3 0", NODE_LIMIT + 1),
+        &format!("graph 3 {} 0", EDGE_LIMIT + 1),
         "graph 3 65535 0",
         "graph 3 3 5",
         "graph 3 3 256",

@@ -2,6 +2,7 @@
 
 use oracle::original::{Coord3D, Line3D};
 use oracle::rotation::{least_rotation, Rotation};
+use oracle::state::NODE_LIMIT;
 use oracle::{calls, listing, records, Oracle};
 
 /// What the oracle prints for a call list.
@@ -156,14 +157,19 @@ fn p10_least_rotation() {
     assert_eq!(least_rotation::<u64>(&[]), found(0, 0));
 }
 
+/// Disjoint segments, two nodes each, fill the nodes; one more with a new end gets 3, one between old
+/// nodes passes.
 #[test]
 fn full_of_nodes() {
+    let segments = NODE_LIMIT / 2;
     let mut list = String::from("create\n");
-    for line in 0..512 {
+    for line in 0..segments {
         list += &format!("add 0 {line} 0 1 {line} 0 1\n");
     }
     list += "add 0 0 0 2 0 0 1\nadd 0 0 0 0 1 0 1\n";
-    assert!(answers(&list).ends_with("edge 511 new\nrefused 3\nedge 512 new\n"));
+    let last = segments - 1;
+    let expected = format!("edge {last} new\nrefused 3\nedge {segments} new\n");
+    assert!(answers(&list).ends_with(&expected));
 }
 
 #[test]

@@ -28,8 +28,8 @@ extern "C" {
 
 /* ---- limits */
 
-#define TUKMIHEB_NODE_LIMIT 1024
-#define TUKMIHEB_EDGE_LIMIT 1024
+#define TUKMIHEB_NODE_LIMIT 2048
+#define TUKMIHEB_EDGE_LIMIT 2048
 #define TUKMIHEB_HALF_EDGE_LIMIT (2 * TUKMIHEB_EDGE_LIMIT)
 
 /* Pairs of a line id and the place of the next, for the lists of all edges. */

@@ -5,10 +5,10 @@
 //! its end, so that a longer slice is lent for a longer last table.
 
 /// The most nodes that a graph may have.
-pub const NODE_LIMIT: usize = 1024;
+pub const NODE_LIMIT: usize = 2048;
 
 /// The most edges that a graph may have.
-pub const EDGE_LIMIT: usize = 1024;
+pub const EDGE_LIMIT: usize = 2048;
 
 /// The most pairs of a line id and the place of the next one, for the lists of all edges together. All
 /// lengths and places that follow are made from these three limits.

@@ -12,8 +12,8 @@ use Rattle.lists.specs.Lists.{below, In}
 use Rattle.rules.specs.Face.{Ring}
 use Rattle.rules.specs.Holes.{enclosed, ringAt}
 use Rattle.ring_lists.specs.Shown.{HalfOf}
-use Rattle.corners.specs.Nodes.{NodesWithin}
 use Rattle.corners.specs.declared.boxes.Sides.{Sides}
+use Rattle.inside.specs.Spots.{NodesWithin}
 
 -- how many numbers a candidate has
 abbrev pub numbersOf : ℕ

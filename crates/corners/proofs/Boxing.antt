@@ -8,8 +8,8 @@ use mathlib.Core.List.{List, [], _∷_, _++_}
 use lib.IntN.{ℤ}
 use Rattle.lists.specs.Lists.{In}
 use Rattle.rules.specs.Holes.{leftOf}
-use Rattle.inside.specs.Spots.{spotIn}
-use Rattle.corners.specs.Nodes.{NodesWithin, FirstOf}
+use Rattle.inside.specs.Spots.{spotIn, NodesWithin}
+use Rattle.corners.specs.Nodes.{FirstOf}
 use Rattle.corners.specs.Boxes.{lower, higher, SidesWithin, Bounds, Widened, Outermost}
 use Rattle.corners.specs.declared.boxes.Sides.{Sides}
 use Rattle.corners.proofs.Fronts.{in-more, in-old, in-new}

@@ -10,10 +10,6 @@ use Rattle.lists.specs.Lists.{pick, member, In}
 use Rattle.geometry.specs.Angle.{Point}
 use Rattle.rules.specs.Holes.{leftOf, outside}
 
--- every node of a list is below a count
-abbrev pub NodesWithin : List ℕ → ℕ → Type 0
-NodesWithin nodes count = (n : ℕ) → In n nodes → n < count
-
 -- the nodes of a list have the stamp, and the others what they had
 pub record Stamped (nodes : List ℕ) (stamp : ℕ) (before after : List ℕ) : Type 0 where
   pub size : length after ≡ length before

@@ -1,8 +1,9 @@
 // The box of a ring, by the nodes at its four sides.
 ghost use Prim.Native.Nat.{_<_};
 ghost use lib.ListN.{length};
-ghost use Rattle.corners.specs.Nodes.{FirstOf, NodesWithin};
+ghost use Rattle.corners.specs.Nodes.{FirstOf};
 ghost use Rattle.corners.specs.Boxes.{lower, higher, SidesWithin, Widened, Outermost};
+ghost use Rattle.inside.specs.Spots.{NodesWithin};
 use crate::nodes::left_of;
 use tables::wide;
 

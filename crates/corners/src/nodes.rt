@@ -4,8 +4,8 @@ ghost use mathlib.Core.List.{List, [], _∷_, _++_};
 ghost use Prim.Native.Nat.{ℕ, _<_, _≤_};
 ghost use lib.ListN.{length};
 ghost use Rattle.rules.specs.Holes.{leftOf, outside};
-ghost use Rattle.inside.specs.Spots.{spotIn};
-ghost use Rattle.corners.specs.Nodes.{NodesWithin, FirstOf, Stamped, Leftmost, TestPoint};
+ghost use Rattle.inside.specs.Spots.{spotIn, NodesWithin};
+ghost use Rattle.corners.specs.Nodes.{FirstOf, Stamped, Leftmost, TestPoint};
 use tables::wide;
 
 // The number of no node.

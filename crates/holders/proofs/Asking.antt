@@ -16,15 +16,14 @@ use Rattle.rules.specs.Limits.{limits}
 use Rattle.rules.specs.Face.{Ring}
 use Rattle.rules.specs.Ringing.{sideNumber, exactSide}
 use Rattle.rules.specs.Holes.{enclosed, isOpen, ringNodes, ringAt}
-use Rattle.inside.specs.Spots.{Spotted}
+use Rattle.inside.specs.Spots.{Spotted, NodesWithin}
 use Rattle.inside.proofs.Tables.{written-within}
-use Rattle.corners.specs.Nodes.{NodesWithin}
 use Rattle.candidates.specs.Candidates.{numbersOf, RingListable, Listable, Candidates}
 use Rattle.candidates.specs.Order.{Orderable}
 use Rattle.holders.specs.Maps.{origins, Map, mapOf, partOf, Laid, Holds}
-use Rattle.holders.specs.Search.{Field}
+use Rattle.holders.specs.Search.{Slanted, Field}
 use Rattle.holders.specs.Listing.{OpenListed}
-use Rattle.holders.specs.Asked.{Asked, Ready}
+use Rattle.holders.specs.Asked.{Asked, Ready, Boxable}
 use Rattle.holders.proofs.HoldingLaws.{nodes-within}
 
 -- ---- of a map in whole numbers
@@ -44,13 +43,28 @@ module _ (rs : List Ring) (bound : ℕ) (m : Map) (side : List ℕ) (area : List
     inNumbers = omega (arith, b, ready .fewEnclosed);
   }
 
-  module _ (rings : List ℕ) (numbers : List ℤ) (n : ℕ) (listed : Candidates rs (m .nodes) (m .xs) (m .ys) (m .first) (m .size) count rings numbers n) where
+  -- their boxes can be made in any view
+  pub ready-boxable : (rings : List ℕ) (numbers : List ℤ) → limits .edges ≤ length rings → numbersOf * limits .edges ≤ length numbers
+      → Boxable rs bound (m .nodes) (m .xs) (m .ys) (m .first) (m .size) side area count rings numbers
+  ready-boxable rings numbers a b = record {
+    fewNodes = ready .fewNodes;
+    spotted = ready .map .spotted;
+    low = λ i l.
+        let d = ready .map .each i (omega (arith, l, ready .counted)) in
+        subst (λ k. NodesWithin k bound) (sym (d .nodes)) (nodes-within (ringAt rs i .halfEdges) (m .source) bound (d .within));
+    listable = ready-listable rings numbers a b;
+  }
+
+  module _ (slope : ℕ) (rings : List ℕ) (numbers : List ℤ) (n : ℕ) (along : List ℤ) (slanted : Slanted slope (m .xs) (m .ys) bound along)
+      (listed : Candidates rs (m .nodes) along (m .ys) (m .first) (m .size) count rings numbers n) where
     -- with them the map can be searched
-    pub ready-field : Field rs m bound rings numbers n
+    pub ready-field : Field rs m bound slope rings numbers n
     ready-field = record {
       map = ready .map;
       known = omega (arith, ready .fewNodes);
-      candidates = subst (λ k. Candidates rs (m .nodes) (m .xs) (m .ys) (m .first) (m .size) k rings numbers n) (ready .counted) listed;
+      along = along;
+      slanted = slanted;
+      candidates = subst (λ k. Candidates rs (m .nodes) along (m .ys) (m .first) (m .size) k rings numbers n) (ready .counted) listed;
     }
 
     -- and they can be ordered
@@ -58,6 +72,26 @@ module _ (rs : List Ring) (bound : ℕ) (m : Map) (side : List ℕ) (area : List
     ready-orderable order room =
         let few : n ≤ limits .edges = omega (arith, listed .many, ready .fewEnclosed) in
         record { few = omega arith; inNumbers = listed .inNumbers; room = omega arith }
+
+-- ---- boxes in another view
+
+-- rings that can be listed by x can be listed by another table
+pub along-listable : (rs : List Ring) (bound : ℕ) (nodes : List ℕ) (xs ys along : List ℤ) (first size side : List ℕ) (area : List Float) (count : ℕ) (rings : List ℕ) (numbers : List ℤ)
+    → bound ≤ length along → Boxable rs bound nodes xs ys first size side area count rings numbers → Listable rs nodes along ys first size side area count rings numbers
+along-listable rs bound nodes xs ys along first size side area count rings numbers long b =
+    let l = b .listable in
+    record {
+      counted = l .counted;
+      inFirst = l .inFirst;
+      inSize = l .inSize;
+      inSide = l .inSide;
+      inArea = l .inArea;
+      each = λ i low.
+          let e = l .each i low in
+          record { within = e .within; some = e .some; inXs = λ k m. omega (arith, b .low i low k m, long); inYs = e .inYs; sided = e .sided; halved = e .halved };
+      inRings = l .inRings;
+      inNumbers = l .inNumbers;
+    }
 
 -- ---- of the lists that extraction wrote
 

@@ -1,34 +1,38 @@
 -- Candidates are rings of the map; whether one holds an open ring, by the parts of the lists; and the stamps of rings.
 use Prim.Native.Nat.{ℕ, suc, _+_, _<_, _≤_}
 use native.Mathlib.Omega.{arith}
-use mathlib.Core.Path.{_≡_, refl, sym, ap, subst, _∙_}
-use mathlib.Core.Bool.{Bool, true, cond}
+use mathlib.Core.Path.{_≡_, sym, ap, subst, _∙_}
+use mathlib.Core.Bool.{Bool, true, _&&_}
 use mathlib.Core.Logic.{⊎-elim}
 use mathlib.Core.List.{List, [], _∷_}
 use lib.ListN.{length, getD, List·getD-eq-default}
 use lib.Seq.{getD-take}
 use lib.IntN.{ℤ}
-use borrow.Author.Tests.{ltb-true}
-use Rattle.lists.specs.Lists.{In, below, member}
-use Rattle.lists.proofs.Counts.{by-test, by-lt, in-cons}
+use Rattle.lists.specs.Lists.{In, below}
+use Rattle.lists.proofs.Counts.{by-lt, in-cons}
 use Rattle.lists.proofs.Members.{in-at, below-in}
 use Rattle.geometry.specs.Angle.{Point}
 use Rattle.rules.specs.Cycles.{Arrangement}
 use Rattle.rules.specs.Face.{Ring}
-use Rattle.rules.specs.Holes.{holds, enclosed, ringNodes, ringAt}
+use Rattle.rules.specs.Claim.{Joined}
+use Rattle.rules.specs.Euler.{someOf}
+use Rattle.rules.specs.Holes.{holds, enclosed, ringNodes, ringAt, leftOf, foremostOf}
 use Rattle.rules.proofs.Values.{map-in}
-use Rattle.inside.specs.Spots.{spotIn, LineWithin, RingWithin}
-use Rattle.corners.specs.Nodes.{NodesWithin, Stamped}
+use Rattle.inside.specs.Spots.{spotIn, LineWithin, RingWithin, NodesWithin}
 use Rattle.holders.specs.Maps.{origins, Map, partOf, Laid}
-use Rattle.holders.specs.Holding.{holdsBy, Stamps}
+use Rattle.inside.proofs.Standing.{walk-inside}
+use Rattle.holders.specs.Holding.{free, holdsBy, Restamped, Stamps}
 use Rattle.holders.specs.Search.{Field, Opening, holdsAt}
 
--- a ring holds another by its half-edges and nodes and the other's nodes
-pub holds-by : (at : ℕ → Point) (g : Arrangement) (e o : Ring) → holds at g e o ≡ holdsBy at g (e .halfEdges) (ringNodes g (e .halfEdges)) (ringNodes g (o .halfEdges))
+-- a closed ring holds another by its nodes and the other's
+pub holds-by : (at : ℕ → Point) (g : Arrangement) (e o : Ring) → Joined g (getD (e .halfEdges) 0 0) (e .halfEdges)
+    → holds at g e o ≡ holdsBy at (ringNodes g (e .halfEdges)) (ringNodes g (o .halfEdges))
 unfolding holds
-holds-by at g e o = refl
+holds-by at g e o j =
+    let l = free (ringNodes g (e .halfEdges)) (ringNodes g (o .halfEdges)) in
+    ap (λ t. someOf l && t) (sym (walk-inside at (at (foremostOf (leftOf at) 0 l)) g (e .halfEdges) j))
 
-module _ (rs : List Ring) (m : Map) (bound : ℕ) (rings : List ℕ) (numbers : List ℤ) (count : ℕ) (field : Field rs m bound rings numbers count) where
+module _ (rs : List Ring) (m : Map) (bound slope : ℕ) (rings : List ℕ) (numbers : List ℤ) (count : ℕ) (field : Field rs m bound slope rings numbers count) where
   -- a candidate is an enclosed ring
   pub candidate-ring : (j : ℕ) → j < count → (getD rings j 0 < length rs) × (enclosed (ringAt rs (getD rings j 0)) ≡ true)
   candidate-ring j low =
@@ -43,13 +47,13 @@ module _ (rs : List Ring) (m : Map) (bound : ℕ) (rings : List ℕ) (numbers : 
   candidate-laid j low = field .map .each (getD rings j 0) (candidate-ring j low .0)
 
   -- whether it holds an open ring
-  pub holds-at : (o : Ring) (inner : List ℕ) (x y : ℤ) → Opening o m bound inner x y → (j : ℕ) → j < count
-      → holdsBy (spotIn (m .xs) (m .ys)) (origins (m .source)) (partOf m (getD rings j 0) (m .halfEdges)) (partOf m (getD rings j 0) (m .nodes)) inner ≡ holdsAt rs m o rings j
-  holds-at o inner x y opening j low =
+  pub holds-at : (o : Ring) (inner : List ℕ) (corner : ℕ) (x y : ℤ) → Opening o m bound slope inner corner x y → (j : ℕ) → j < count
+      → holdsBy (spotIn (m .xs) (m .ys)) (partOf m (getD rings j 0) (m .nodes)) inner ≡ holdsAt rs m o rings j
+  holds-at o inner corner x y opening j low =
       let l = candidate-laid j low in
       let at = spotIn (m .xs) (m .ys) in
       let g = origins (m .source) in
-      (λ i. holdsBy at g (l .halves i) (l .nodes i) (opening .nodes i)) ∙ sym (holds-by at g (ringAt rs (getD rings j 0)) o)
+      (λ i. holdsBy at (l .nodes i) (opening .nodes i)) ∙ sym (holds-by at g (ringAt rs (getD rings j 0)) o (l .joined))
 
 -- where a member stands
 in-index : (h : ℕ) (l : List ℕ) → In h l → (k : ℕ) × (k < length l) × (getD l k 0 ≡ h)
@@ -74,22 +78,20 @@ module _ (rs : List Ring) (source : List ℕ) (bound : ℕ) (stamps after : List
   stamp-fresh i n e = let f : getD stamps n 0 ≡ suc i = omega (arith, e) in s .mine n i f
 
   -- and still does after it was set
-  pub stamps-kept : (i : ℕ) → Stamped (ringNodes (origins source) (ringAt rs i .halfEdges)) (i + 1) stamps after → Stamps rs source bound after
+  pub stamps-kept : (i : ℕ) → Restamped (ringNodes (origins source) (ringAt rs i .halfEdges)) (i + 1) stamps after → Stamps rs source bound after
   stamps-kept i t = record {
     room = omega (arith, s .room, t .size);
     few = omega (arith, s .few, t .size);
     mine = λ n k e. by-lt n (length stamps) (inside n k e) (past n k e);
   }
     where
-      own : List ℕ
-      own = ringNodes (origins source) (ringAt rs i .halfEdges)
-
       inside : (n k : ℕ) → getD after n 0 ≡ suc k → n < length stamps → In n (ringNodes (origins source) (ringAt rs k .halfEdges))
-      inside n k e low = by-test (member n own)
-          (λ y.
-          let same : i ≡ k = omega (arith, e, t .each n low ∙ ap (λ b. cond b (i + 1) (getD stamps n 0)) y) in
-          subst (λ h. In n (ringNodes (origins source) (ringAt rs h .halfEdges))) same (ltb-true 0 _ y))
-          (λ y. s .mine n k (sym (t .each n low ∙ ap (λ b. cond b (i + 1) (getD stamps n 0)) y) ∙ e))
+      inside n k e low = ⊎-elim
+          (λ old. s .mine n k (sym old ∙ e))
+          (λ new.
+          let same : i ≡ k = omega (arith, e, new .0) in
+          subst (λ h. In n (ringNodes (origins source) (ringAt rs h .halfEdges))) same (new .1))
+          (t .each n low)
 
       past : (n k : ℕ) → getD after n 0 ≡ suc k → length stamps ≤ n → In n (ringNodes (origins source) (ringAt rs k .halfEdges))
       past n k e high = absurd (omega (arith, e, List·getD-eq-default after 0 {n = n} (omega (arith, high, t .size))))

@@ -1,4 +1,5 @@
 -- Laws of the search for holders.
+pub mod Slants
 pub mod TestPoints
 pub mod Boxes
 pub mod HoldingLaws

@@ -105,15 +105,15 @@ module _ {rs : List Ring} {m : Map} {bound : ℕ} {side : List ℕ} {area : List
 -- ---- the loop
 
 -- the open ones of the first i rings are recorded, whatever rings these are
-pub record Gone (m : Map) (rings : List ℕ) (numbers : List ℤ) (candidates : ℕ) (side : List ℕ) (area : List Float) (count i : ℕ) (list : List Hole) (stamps : List ℕ) (k : ℕ) : Type 0 where
+pub record Gone (m : Map) (slope : ℕ) (rings : List ℕ) (numbers : List ℤ) (candidates : ℕ) (side : List ℕ) (area : List Float) (count i : ℕ) (list : List Hole) (stamps : List ℕ) (k : ℕ) : Type 0 where
   pub goes : i ≤ count
   pub sameList : length list ≡ limits .edges
   pub sameStamps : length stamps ≡ limits .nodes
-  pub listed : (rs : List Ring) (bound : ℕ) → Field rs m bound rings numbers candidates → OpenListed rs side area count → bound ≤ limits .nodes → Listed rs m bound i list stamps k
+  pub listed : (rs : List Ring) (bound : ℕ) → Field rs m bound slope rings numbers candidates → OpenListed rs side area count → bound ≤ limits .nodes → Listed rs m bound i list stamps k
 
-module _ {m : Map} {rings : List ℕ} {numbers : List ℤ} {candidates : ℕ} {side : List ℕ} {area : List Float} {count : ℕ} where
+module _ {m : Map} {slope : ℕ} {rings : List ℕ} {numbers : List ℤ} {candidates : ℕ} {side : List ℕ} {area : List Float} {count : ℕ} where
   -- before the first turn
-  pub gone-none : {list : List Hole} → length list ≡ limits .edges → Gone m rings numbers candidates side area count 0 list (replicate (limits .nodes) 0) 0
+  pub gone-none : {list : List Hole} → length list ≡ limits .edges → Gone m slope rings numbers candidates side area count 0 list (replicate (limits .nodes) 0) 0
   gone-none {list} e = record {
     goes = omega arith;
     sameList = e;
@@ -121,9 +121,9 @@ module _ {m : Map} {rings : List ℕ} {numbers : List ℤ} {candidates : ℕ} {s
     listed = λ rs bound field given small. listed-none small list;
   }
 
-  module _ {i k : ℕ} {list : List Hole} {stamps : List ℕ} (low : i < count) (old : Gone m rings numbers candidates side area count i list stamps k) where
+  module _ {i k : ℕ} {list : List Hole} {stamps : List ℕ} (low : i < count) (old : Gone m slope rings numbers candidates side area count i list stamps k) where
     -- a turn at another ring
-    pub gone-other : eqb (getD side i 0) 2 ≡ false → Gone m rings numbers candidates side area count (i + 1) list stamps k
+    pub gone-other : eqb (getD side i 0) 2 ≡ false → Gone m slope rings numbers candidates side area count (i + 1) list stamps k
     gone-other e = record {
       goes = omega arith;
       sameList = old .sameList;
@@ -133,10 +133,10 @@ module _ {m : Map} {rings : List ℕ} {numbers : List ℤ} {candidates : ℕ} {s
 
     -- a turn at an open ring, whose holder and doubled area were found
     pub gone-one : eqb (getD side i 0) 2 ≡ true → (holder : ℕ) (doubled : ℤ) (after : List ℕ) → length after ≡ length stamps
-        → ((rs : List Ring) (bound : ℕ) → Field rs m bound rings numbers candidates → i < length rs → holder ≡ holderAt m rs i)
+        → ((rs : List Ring) (bound : ℕ) → Field rs m bound slope rings numbers candidates → i < length rs → holder ≡ holderAt m rs i)
         → ((z : ℤ) → HalfOf (getD area i nan) z → doubled ≡ z)
-        → ((rs : List Ring) (bound : ℕ) → Field rs m bound rings numbers candidates → Stamps rs (m .source) bound stamps → Stamps rs (m .source) bound after)
-        → Gone m rings numbers candidates side area count (i + 1) (set list k (record { ring = i; holder = holder; doubled = doubled })) after (k + 1)
+        → ((rs : List Ring) (bound : ℕ) → Field rs m bound slope rings numbers candidates → Stamps rs (m .source) bound stamps → Stamps rs (m .source) bound after)
+        → Gone m slope rings numbers candidates side area count (i + 1) (set list k (record { ring = i; holder = holder; doubled = doubled })) after (k + 1)
     gone-one e holder doubled after same found half kept = record {
       goes = omega arith;
       sameList = length-set list k _ ∙ old .sameList;

@@ -8,15 +8,15 @@ use lib.IntN.{ℤ, pos}
 use Rattle.lists.specs.Lists.{In}
 use Rattle.rules.specs.Face.{Ring}
 use Rattle.rules.specs.Holes.{ringAt}
-use Rattle.corners.specs.Nodes.{NodesWithin}
 use Rattle.corners.specs.Boxes.{Outermost}
 use Rattle.corners.specs.declared.boxes.Sides.{Sides}
 use Rattle.candidates.specs.Candidates.{Standing}
 use Rattle.holders.specs.Maps.{Map, partOf}
-use Rattle.holders.specs.Search.{Field, Opening}
+use Rattle.holders.specs.Search.{alongOf, Field, Opening}
 use Rattle.holders.proofs.HoldingLaws.{nodes-within}
+use Rattle.inside.specs.Spots.{NodesWithin}
 
-module _ (rs : List Ring) (m : Map) (bound : ℕ) (rings : List ℕ) (numbers : List ℤ) (count : ℕ) (field : Field rs m bound rings numbers count) (i : ℕ) (low : i < length rs) where
+module _ (rs : List Ring) (m : Map) (bound slope : ℕ) (rings : List ℕ) (numbers : List ℤ) (count : ℕ) (field : Field rs m bound slope rings numbers count) (i : ℕ) (low : i < length rs) where
   -- its nodes are nodes of the map
   pub part-within : NodesWithin (partOf m i (m .nodes)) bound
   part-within =
@@ -43,14 +43,12 @@ module _ (rs : List Ring) (m : Map) (bound : ℕ) (rings : List ℕ) (numbers : 
     left-low = part-within (s .left) (box .left)
 
     -- with its nodes and the place of the leftmost one
-    pub opening-of : (inner : List ℕ) (x y : ℤ) → inner ≡ partOf m i (m .nodes) → x ≡ getD (m .xs) (s .left) (pos 0) → y ≡ getD (m .ys) (s .left) (pos 0)
-        → Opening (ringAt rs i) m bound inner x y
+    pub opening-of : (inner : List ℕ) (x y : ℤ) → inner ≡ partOf m i (m .nodes) → x ≡ alongOf slope (getD (m .xs) (s .left) (pos 0)) (getD (m .ys) (s .left) (pos 0))
+        → y ≡ getD (m .ys) (s .left) (pos 0) → Opening (ringAt rs i) m bound slope inner (s .left) x y
     opening-of inner x y e ex ey = record {
       nodes = e ∙ field .map .each i low .nodes;
       within = subst (λ n. NodesWithin n bound) (sym e) part-within;
-      corner = s .left;
-      one = subst (λ n. In (s .left) n) (sym e) (box .left);
-      first = λ n k. box .bounds n (subst (λ l. In n l) e k) .left;
+      leftmost = record { one = subst (λ n. In (s .left) n) (sym e) (box .left); first = λ n k. box .bounds n (subst (λ l. In n l) e k) .left };
       isX = ex;
       isY = ey;
     }

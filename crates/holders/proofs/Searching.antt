@@ -29,7 +29,7 @@ use Rattle.holders.specs.Maps.{origins, Map, Laid}
 use Rattle.holders.specs.Search.{Field, Opening, holdsAt, firstBy, Behind, Best}
 use Rattle.holders.specs.Holding.{holdsBy}
 use Rattle.holders.proofs.Boxes.{held-in-box}
-use Rattle.holders.proofs.HoldingLaws.{holds-by, candidate-ring, candidate-laid}
+use Rattle.holders.proofs.HoldingLaws.{holds-by, candidate-ring, candidate-laid, nodes-within}
 
 -- every candidate comes before none
 pub first-of-none : (rings : List ℕ) (numbers : List ℤ) (face : List ℕ) (count j best : ℕ) → best ≡ count → firstBy rings numbers face count j best ≡ true
@@ -55,7 +55,7 @@ module _ (rs : List Ring) (m : Map) (o : Ring) (rings order : List ℕ) (count :
     behind = λ k l h. by-lt k place (more k l) (λ g. old .behind k g h);
   }
 
-module _ (rs : List Ring) (m : Map) (bound : ℕ) (rings : List ℕ) (numbers : List ℤ) (count : ℕ) (field : Field rs m bound rings numbers count) where
+module _ (rs : List Ring) (m : Map) (bound slope : ℕ) (rings : List ℕ) (numbers : List ℤ) (count : ℕ) (field : Field rs m bound slope rings numbers count) where
   -- ---- candidates and enclosed rings
 
   abbrev chosen : ℕ → Bool
@@ -79,8 +79,8 @@ module _ (rs : List Ring) (m : Map) (bound : ℕ) (rings : List ℕ) (numbers : 
       let some-other : eqb best count ≡ false = ne-eqb best count (omega arith) in
       let a = field .candidates .each j low .area in
       let b = field .candidates .each best some .area in
-      let f = candidate-laid rs m bound rings numbers count field j low .faced in
-      let g = candidate-laid rs m bound rings numbers count field best some .faced in
+      let f = candidate-laid rs m bound slope rings numbers count field j low .faced in
+      let g = candidate-laid rs m bound slope rings numbers count field best some .faced in
       λ t. some-other t || (ltZ (a t) (b t) || (not (ltZ (b t) (a t)) && ltb (f t) (g t)))
 
   -- one that comes later is behind, whether it holds or not
@@ -95,12 +95,12 @@ module _ (rs : List Ring) (m : Map) (bound : ℕ) (rings : List ℕ) (numbers : 
       behind-late o best j low (omega arith) (rw (ne-eqb best count (omega arith), order-int .oneWay (numberAt numbers best 4) (numberAt numbers j 4) e, e) refl)
 
   -- one that has the open ring's corner beside its box does not hold
-  module _ (o : Ring) (inner : List ℕ) (x y : ℤ) (opening : Opening o m bound inner x y) (j : ℕ) (low : j < count) where
+  module _ (o : Ring) (inner : List ℕ) (corner : ℕ) (x y : ℤ) (opening : Opening o m bound slope inner corner x y) (j : ℕ) (low : j < count) where
     pub beside : inBox numbers j x y ≡ false → holdsAt rs m o rings j ≡ false
     beside f = by-test (holdsAt rs m o rings j) (λ h. absurd (true-is-false (sym (within h) ∙ f))) (λ h. h)
       where
         laid : Laid rs m bound (getD rings j 0)
-        laid = candidate-laid rs m bound rings numbers count field j low
+        laid = candidate-laid rs m bound slope rings numbers count field j low
 
         at : ℕ → Point
         at = spotIn (m .xs) (m .ys)
@@ -111,16 +111,17 @@ module _ (rs : List Ring) (m : Map) (bound : ℕ) (rings : List ℕ) (numbers : 
         ring : Ring
         ring = ringAt rs (getD rings j 0)
 
-        box : Boxed (m .xs) (m .ys) numbers j (ringNodes g (ring .halfEdges)) (ring .doubled)
-        box = subst (λ l. Boxed (m .xs) (m .ys) numbers j l (ring .doubled)) (laid .nodes) (field .candidates .each j low)
+        box : Boxed (field .along) (m .ys) numbers j (ringNodes g (ring .halfEdges)) (ring .doubled)
+        box = subst (λ l. Boxed (field .along) (m .ys) numbers j l (ring .doubled)) (laid .nodes) (field .candidates .each j low)
 
-        same : holdsBy at g (ring .halfEdges) (ringNodes g (ring .halfEdges)) inner ≡ holdsAt rs m o rings j
-        same = (λ t. holdsBy at g (ring .halfEdges) (ringNodes g (ring .halfEdges)) (opening .nodes t)) ∙ sym (holds-by at g ring o)
+        same : holdsBy at (ringNodes g (ring .halfEdges)) inner ≡ holdsAt rs m o rings j
+        same = (λ t. holdsBy at (ringNodes g (ring .halfEdges)) (opening .nodes t)) ∙ sym (holds-by at g ring o (laid .joined))
 
         within : holdsAt rs m o rings j ≡ true → inBox numbers j x y ≡ true
         within h =
             (λ t. inBox numbers j (opening .isX t) (opening .isY t))
-            ∙ held-in-box (m .xs) (m .ys) numbers j g (ring .halfEdges) inner (ring .doubled) box (laid .joined) (opening .corner) (opening .one) (opening .first) (same ∙ h)
+            ∙ held-in-box slope (m .xs) (m .ys) (field .along) numbers j bound (field .slanted) g (ring .halfEdges) inner (ring .doubled) box (laid .joined)
+            (nodes-within (ring .halfEdges) (m .source) bound (laid .within)) corner (opening .leftmost) (same ∙ h)
 
     -- it lies beside where it begins to the right of the corner
     pub beside-left : ltZ x (numberAt numbers j 0) ≡ true → holdsAt rs m o rings j ≡ false
@@ -155,17 +156,17 @@ module _ (rs : List Ring) (m : Map) (bound : ℕ) (rings : List ℕ) (numbers : 
   -- ---- many at once
 
   module _ (order : List ℕ) (stand : InOrder numbers count order) (o : Ring) where
-    module _ (inner : List ℕ) (x y : ℤ) (opening : Opening o m bound inner x y) where
+    module _ (inner : List ℕ) (corner : ℕ) (x y : ℤ) (opening : Opening o m bound slope inner corner x y) where
       -- those that begin to the right of the corner
       pub best-start : (place : ℕ) → Parted numbers order count x place → Best rs m o rings order count place count
       best-start place p = pass-by rs m o rings order count count place count
-          (λ k l h. behind-open rs m o rings count count (getD order k 0) (beside-left o inner x y opening (getD order k 0) (order-low numbers count order stand k h) (p .right k l h)))
+          (λ k l h. behind-open rs m o rings count count (getD order k 0) (beside-left o inner corner x y opening (getD order k 0) (order-low numbers count order stand k h) (p .right k l h)))
           (best-none rs m o rings order count)
 
       -- those that end to the left of it
       pub best-next : (place next best : ℕ) → place ≤ count → EndsBefore numbers order x next place → Best rs m o rings order count place best → Best rs m o rings order count next best
       best-next place next best small ends old = pass-by rs m o rings order count place next best
-          (λ k l h. behind-open rs m o rings count best (getD order k 0) (beside-right o inner x y opening (getD order k 0) (order-low numbers count order stand k (omega arith)) (ends k l h)))
+          (λ k l h. behind-open rs m o rings count best (getD order k 0) (beside-right o inner corner x y opening (getD order k 0) (order-low numbers count order stand k (omega arith)) (ends k l h)))
           old
 
     -- all that is left, where it has larger areas
@@ -207,7 +208,7 @@ module _ (rs : List Ring) (m : Map) (bound : ℕ) (rings : List ℕ) (numbers : 
         (λ e. rw (eq-eqb best count e) (hole-rules (spotIn (m .xs) (m .ys)) (origins (m .source)) rs .unheld o (λ i h. omega (arith, e, held-behind i h .0))))
         (λ d.
         let some : best < count = omega (arith, all .low) in
-        let c = candidate-ring rs m bound rings numbers count field best some in
+        let c = candidate-ring rs m bound slope rings numbers count field best some in
         rw (ne-eqb best count d) (the-holder (spotIn (m .xs) (m .ys)) (origins (m .source)) rs (field .map .apart) o (getD rings best 0)
         (record { low = c .0; encloses = c .1; around = all .holder some })
         (λ i h. held-behind i h .1)))

@@ -1,24 +1,31 @@
 -- The leftmost of the nodes without a ring's stamp lies where the test point of the rules does.
 use Prim.Native.Nat.{ℕ, _<_}
 use native.Mathlib.Omega.{arith}
-use mathlib.Core.Path.{_≡_, refl, sym, ap, _∙_}
-use mathlib.Core.Bool.{true, false, cond, not}
+use mathlib.Core.Path.{_≡_, refl, sym, ap, ap₂, _∙_}
+use mathlib.Core.Bool.{true, false, cond, not, _&&_}
 use mathlib.Core.List.{List, [], _∷_}
 use lib.ListN.{length, getD}
 use lib.Dec.{eqb}
+use lib.IntN.{ℤ}
 use lib.Signed.{ltZ}
-use borrow.Author.Tests.{eq-eqb, ne-eqb, lt-ltb}
-use Rattle.lists.specs.Lists.{In, member, countOf}
+use borrow.Author.Tests.{eq-eqb, ne-eqb, lt-ltb, ltb-true}
+use Rattle.lists.specs.Lists.{In, lastOf, member, countOf}
 use Rattle.lists.proofs.Counts.{by-test, in-head, true-is-false}
+use Rattle.lists.proofs.Members.{in-pick, pick-in}
 use Rattle.lists.proofs.Passing.{pick-agree}
 use Rattle.geometry.specs.Angle.{Point}
 use Rattle.rules.specs.Euler.{someOf}
 use Rattle.rules.specs.Holes.{leftOf, outside, foremostOf}
 use Rattle.rules.proofs.Orders.{then-false, decides-int}
 use Rattle.rules.proofs.HoleLaws.{foremost-of-in, foremost-of-first}
-use Rattle.corners.specs.Nodes.{NodesWithin, Stamped, unstamped, Leftmost}
+use Rattle.corners.specs.Nodes.{Stamped, unstamped, Leftmost}
 use Rattle.corners.proofs.Lefts.{left-order}
-use Rattle.holders.specs.Holding.{free}
+use Rattle.holders.specs.Holding.{free, insideBy, holdsBy, Corner}
+use Rattle.inside.specs.Spots.{spotIn, NodesWithin}
+use Rattle.inside.specs.Standing.{standsFrom, isInside}
+use Rattle.inside.specs.declared.rings.Stands.{Stands}
+use Rattle.inside.specs.declared.rings.Stands.the-variants.{OnRing}
+use Rattle.inside.proofs.Standing.{walk-on}
 
 module _ (at : ℕ → Point) where
   -- two nodes of which neither lies to the left of the other lie at one place
@@ -53,6 +60,29 @@ module _ (at : ℕ → Point) where
     same-point d =
         let m = left .one d in
         level n (foremostOf (leftOf at) 0 l) (foremost-of-first (leftOf at) (left-order at) 0 l n m) (left .first (foremostOf (leftOf at) 0 l) (foremost-of-in (leftOf at) (left-order at) 0 l n m))
+
+-- ---- the corner, where the ring does not pass it
+
+module _ (xs ys : List ℤ) (passed inner : List ℕ) (p : ℕ) (corner : Corner xs ys inner p) where
+  abbrev spots : ℕ → Point
+  spots = spotIn xs ys
+
+  -- then it is one of those among which the test point is looked for, and lies where that does
+  pub corner-decides : member p passed ≡ false → holdsBy spots passed inner ≡ insideBy spots passed (spots p)
+  corner-decides e =
+      let l = free passed inner in
+      let t = foremostOf (leftOf spots) 0 l in
+      let m : In p l = in-pick (λ n. not (member n passed)) p inner (corner .one) (ap not e) in
+      let k = foremost-of-in (leftOf spots) (left-order spots) 0 l p m in
+      let same : spots t ≡ spots p =
+      level spots t p (corner .first t (pick-in (λ n. not (member n passed)) t inner k .0)) (foremost-of-first (leftOf spots) (left-order spots) 0 l p m) in
+      ap₂ (λ s q. s && insideBy spots passed q) (some-in spots l p m) same
+
+  -- so the way that the corner stands to the ring decides, unless it is on it
+  pub corner-stands : (r : Stands) → standsFrom spots (spots p) false (lastOf 0 passed) passed ≡ r → (r ≡ OnRing → ⊥) → holdsBy spots passed inner ≡ isInside r
+  corner-stands r e off = by-test (member p passed)
+      (λ t. absurd (off (sym e ∙ walk-on spots (spots p) false (lastOf 0 passed) passed p (ltb-true 0 _ t) refl)))
+      (λ f. corner-decides f ∙ ap isInside e)
 
 -- after a ring's nodes got its stamp, those without it are those that the ring does not pass
 pub unstamped-free : (outer inner : List ℕ) (stamp : ℕ) (before after : List ℕ) → Stamped outer stamp before after → ((n : ℕ) → getD before n 0 ≡ stamp → In n outer)

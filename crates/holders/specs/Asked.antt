@@ -5,6 +5,7 @@ use mathlib.Core.List.{List}
 use lib.ListN.{length, getD}
 use lib.Dec.{T}
 use lib.Ieee.{Float, nan}
+use lib.IntN.{ℤ}
 use Rattle.lists.specs.Lists.{below}
 use Rattle.geometry.specs.Coordinate.{coordinateBound, coordinate}
 use Rattle.rules.specs.Limits.{limits}
@@ -13,9 +14,9 @@ use Rattle.rules.specs.Ringing.{sideNumber, exactSide}
 use Rattle.rules.specs.Claim.{Joined}
 use Rattle.rules.specs.Holes.{enclosed, isOpen, ringAt}
 use Rattle.ring_lists.specs.Shown.{Shown}
-use Rattle.inside.specs.Spots.{RingWithin}
-use Rattle.candidates.specs.Candidates.{RingListable}
-use Rattle.holders.specs.Maps.{origins, Map, Holds}
+use Rattle.inside.specs.Spots.{RingWithin, Spotted, NodesWithin}
+use Rattle.candidates.specs.Candidates.{nodesAt, RingListable, Listable}
+use Rattle.holders.specs.Maps.{origins, Starting, Map, Holds}
 use Rattle.holders.specs.Listing.{OpenListed}
 
 -- the nodes lie at coordinates
@@ -38,7 +39,7 @@ pub record Asked (rs : List Ring) (nodes : ℕ) (xs ys : List Float) (source hal
   pub shown : Shown rs halfEdges first size face area
   pub counted : count ≡ length rs
   pub short : length halfEdges ≤ 2 * limits .edges
-  pub starts : (k : ℕ) → k < length halfEdges → getD halfEdges k 0 < length source
+  pub starts : Starting halfEdges source nodes
   pub closed : (i : ℕ) → i < length rs → Closed nodes source (ringAt rs i .halfEdges)
   pub inSide : length rs ≤ length side
   pub sided : (i : ℕ) → i < length rs → getD side i 0 ≡ sideNumber (exactSide (ringAt rs i .doubled))
@@ -56,3 +57,10 @@ pub record Ready (rs : List Ring) (bound : ℕ) (m : Map) (side : List ℕ) (are
   pub each : (i : ℕ) → i < count → RingListable rs (m .nodes) (m .xs) (m .ys) (m .first) (m .size) side area i
   pub fewEnclosed : length (below (λ i. enclosed (ringAt rs i)) count) ≤ limits .edges
   pub opens : OpenListed rs side area count
+
+-- what boxing the enclosed rings of it asks: nodes that lie at coordinates, and rings that can be listed
+pub record Boxable (rs : List Ring) (bound : ℕ) (nodes : List ℕ) (xs ys : List ℤ) (first size side : List ℕ) (area : List Float) (count : ℕ) (rings : List ℕ) (numbers : List ℤ) : Type 0 where
+  pub fewNodes : bound ≤ limits .nodes
+  pub spotted : Spotted coordinateBound bound xs ys
+  pub low : (i : ℕ) → i < count → NodesWithin (nodesAt nodes first size i) bound
+  pub listable : Listable rs nodes xs ys first size side area count rings numbers

@@ -16,6 +16,10 @@ use Rattle.inside.specs.Spots.{RingWithin, Spotted}
 abbrev pub origins : List ℕ → Arrangement
 origins source = arrangementIn 0 0 source [] []
 
+-- half-edges of a list stand in the table of sources, and start at nodes below a count
+abbrev pub Starting : List ℕ → List ℕ → ℕ → Type 0
+Starting halfEdges source count = (k : ℕ) → k < length halfEdges → (getD halfEdges k 0 < length source) × (getD source (getD halfEdges k 0) 0 < count)
+
 -- the tables and lists
 pub record Map : Type 0 where
   pub source : List ℕ

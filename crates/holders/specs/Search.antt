@@ -1,35 +1,52 @@
 -- The search for an open ring's holder among the candidates.
-use Prim.Native.Nat.{ℕ, _<_, _≤_}
+use Prim.Native.Nat.{ℕ, zero, suc, _<_, _≤_}
 use mathlib.Core.Path.{_≡_}
 use mathlib.Core.Bool.{Bool, true, false, _||_}
 use mathlib.Core.List.{List}
-use lib.IntN.{ℤ, pos}
+use lib.IntN.{ℤ, pos, negsuc, _+ℤ_, _*ℤ_}
 use lib.ListN.{length, getD}
 use lib.Dec.{eqb, ltb}
 use lib.Signed.{ltZ}
-use Rattle.lists.specs.Lists.{In}
 use Rattle.rules.specs.Face.{Ring}
 use Rattle.rules.specs.Pieces.{thenBy}
-use Rattle.rules.specs.Holes.{outside, ringNodes, ringAt, leftOf, holds, holdsFirst}
-use Rattle.inside.specs.Spots.{spotIn}
-use Rattle.corners.specs.Nodes.{NodesWithin}
+use Rattle.rules.specs.Holes.{outside, ringNodes, ringAt, holds, holdsFirst}
+use Rattle.inside.specs.Spots.{spotIn, NodesWithin}
 use Rattle.candidates.specs.Candidates.{numberAt, Candidates}
 use Rattle.holders.specs.Maps.{origins, Map, Holds}
+use Rattle.holders.specs.Holding.{Corner}
+
+-- a point's place in a slanted view: it moves along its level by a factor times its height
+abbrev pub leaned : ℤ → ℤ → ℤ → ℤ
+leaned k x y = x +ℤ k *ℤ y
+
+-- the views in which candidates are boxed, by number: as it is, and slanted one way and the other
+abbrev pub slopeOf : ℕ → ℤ
+slopeOf zero = pos 0
+slopeOf (suc zero) = pos 1
+slopeOf (suc (suc n)) = negsuc 0
+
+-- how far a point lies to the right in one of them
+abbrev pub alongOf : ℕ → ℤ → ℤ → ℤ
+alongOf slope = leaned (slopeOf slope)
+
+-- a table has that of the first so many nodes
+abbrev pub Slanted : ℕ → List ℤ → List ℤ → ℕ → List ℤ → Type 0
+Slanted slope xs ys count along = (n : ℕ) → n < count → getD along n (pos 0) ≡ alongOf slope (getD xs n (pos 0)) (getD ys n (pos 0))
 
 -- a map with its candidates
-pub record Field (rs : List Ring) (m : Map) (bound : ℕ) (rings : List ℕ) (numbers : List ℤ) (count : ℕ) : Type 0 where
+pub record Field (rs : List Ring) (m : Map) (bound slope : ℕ) (rings : List ℕ) (numbers : List ℤ) (count : ℕ) : Type 0 where
   pub map : Holds rs m bound
   pub known : bound ≤ outside
-  pub candidates : Candidates rs (m .nodes) (m .xs) (m .ys) (m .first) (m .size) (length rs) rings numbers count
+  pub along : List ℤ
+  pub slanted : Slanted slope (m .xs) (m .ys) bound along
+  pub candidates : Candidates rs (m .nodes) along (m .ys) (m .first) (m .size) (length rs) rings numbers count
 
--- an open ring with its nodes, and the node of least x, then least y, among them
-pub record Opening (o : Ring) (m : Map) (bound : ℕ) (inner : List ℕ) (x y : ℤ) : Type 0 where
+-- an open ring with its nodes, the node of least x, then least y, among them, and where that lies in the candidates' boxes
+pub record Opening (o : Ring) (m : Map) (bound slope : ℕ) (inner : List ℕ) (corner : ℕ) (x y : ℤ) : Type 0 where
   pub nodes : inner ≡ ringNodes (origins (m .source)) (o .halfEdges)
   pub within : NodesWithin inner bound
-  pub corner : ℕ
-  pub one : In corner inner
-  pub first : (n : ℕ) → In n inner → leftOf (spotIn (m .xs) (m .ys)) n corner ≡ false
-  pub isX : x ≡ getD (m .xs) corner (pos 0)
+  pub leftmost : Corner (m .xs) (m .ys) inner corner
+  pub isX : x ≡ alongOf slope (getD (m .xs) corner (pos 0)) (getD (m .ys) corner (pos 0))
   pub isY : y ≡ getD (m .ys) corner (pos 0)
 
 -- whether candidate j holds the open ring

@@ -2,6 +2,7 @@
 ghost use mathlib.Core.Path.{_≡_};
 ghost use mathlib.Core.List.{List, map};
 ghost use Prim.Native.Nat.{ℕ, _<_, _≤_};
+ghost use lib.IntN.{ℤ};
 ghost use lib.ListN.{length, getD, take};
 ghost use Rattle.lists.specs.Lists.{over};
 ghost use Rattle.rules.specs.Limits.{limits};
@@ -10,12 +11,15 @@ ghost use Rattle.rules.specs.Face.{Ring};
 ghost use Rattle.rules.specs.Holes.{holesOf, ringNodes};
 ghost use Rattle.holes.specs.Lent.{holeOf};
 ghost use Rattle.inside.specs.Spots.{spotIn};
+ghost use Rattle.candidates.specs.Candidates.{Candidates};
 ghost use Rattle.holders.specs.Maps.{origins, mapOf};
-ghost use Rattle.holders.specs.Asked.{Asked, Ready};
+ghost use Rattle.holders.specs.Search.{Slanted};
+ghost use Rattle.holders.specs.Asked.{Asked, Ready, Boxable};
 
 mod holding;
 mod listing;
 mod search;
+mod slopes;
 
 use candidates::CANDIDATE_NUMBERS;
 use candidates::list_enclosed;
@@ -24,6 +28,8 @@ use candidates::write_passing;
 use inside::write_whole;
 pub use listing::HoleList;
 use listing::list_holes;
+use slopes::choose_slope;
+use slopes::write_along;
 use tables::MAX_EDGES;
 use tables::MAX_HALF_EDGES;
 use tables::MAX_NODES;
@@ -41,9 +47,46 @@ fn write_nodes(half_edges: &[u16], dir_edges_src: &[u16], nodes: &mut [u16])
     }
 }
 
+// Lists the enclosed rings in ring order, with their boxes in a view, and answers how many there are.
+fn list_slanted(
+    slope: u8,
+    node_count: usize,
+    ring_count: u16,
+    nodes: &[u16],
+    xs: &[i64],
+    ys: &[i64],
+    ring_first: &[u16],
+    ring_length: &[u16],
+    ring_side: &[u8],
+    ring_area: &[f64],
+    rings: &mut [u16],
+    numbers: &mut [i64],
+) -> usize
+    requires { ⌜ ((rs : List Ring) × Boxable rs «node_count» (now nodes) (now xs) (now ys) (now «ring_first») (now «ring_length») (now «ring_side») (now «ring_area») «ring_count» (now rings) (now numbers)) ⌝ }
+    ensures { λ r. ⌜ ((rs : List Ring) → Boxable rs «node_count» (now (nodes .entry)) (now (xs .entry)) (now (ys .entry)) (now («ring_first» .entry)) (now («ring_length» .entry)) (now («ring_side» .entry)) (now («ring_area» .entry)) «ring_count» (now (rings .entry)) (now (numbers .entry))
+        → ((along : List ℤ) × Slanted slope (now (xs .entry)) (now (ys .entry)) «node_count» along × Candidates rs (now (nodes .entry)) along (now (ys .entry)) (now («ring_first» .entry)) (now («ring_length» .entry)) «ring_count» (now (rings .exit)) (now (numbers .exit)) r)) ⌝ }
+{
+    let mut along = [0i64; MAX_NODES];
+    write_along(slope, xs, ys, node_count, &mut along);
+    list_enclosed(
+        ring_count,
+        nodes,
+        &along,
+        ys,
+        ring_first,
+        ring_length,
+        ring_side,
+        ring_area,
+        rings,
+        numbers,
+    )
+}
+
 // A record for each open ring of a map in whole numbers: the enclosed rings get boxes and an order, so
 // that few of them are tested.
 fn holes_of_map(
+    slope: u8,
+    node_count: u16,
     ring_count: u16,
     ring_side: &[u8],
     ring_area: &[f64],
@@ -56,14 +99,16 @@ fn holes_of_map(
     xs: &[i64],
     ys: &[i64],
 ) -> HoleList
-    requires { ⌜ ((rs : List Ring) × (bound : ℕ) × Ready rs bound (mapOf (now «dir_edges_src») (now xs) (now ys) (now «half_edges») (now nodes) (now «ring_first») (now «ring_length») (now «ring_face»)) (now «ring_side») (now «ring_area») «ring_count») ⌝ }
-    ensures holes { λ r. ⌜ ((rs : List Ring) (bound : ℕ) → Ready rs bound (mapOf (now («dir_edges_src» .entry)) (now (xs .entry)) (now (ys .entry)) (now («half_edges» .entry)) (now (nodes .entry)) (now («ring_first» .entry)) (now («ring_length» .entry)) (now («ring_face» .entry))) (now («ring_side» .entry)) (now («ring_area» .entry)) «ring_count»
+    requires { ⌜ ((rs : List Ring) × Ready rs «node_count» (mapOf (now «dir_edges_src») (now xs) (now ys) (now «half_edges») (now nodes) (now «ring_first») (now «ring_length») (now «ring_face»)) (now «ring_side») (now «ring_area») «ring_count») ⌝ }
+    ensures holes { λ r. ⌜ ((rs : List Ring) → Ready rs «node_count» (mapOf (now («dir_edges_src» .entry)) (now (xs .entry)) (now (ys .entry)) (now («half_edges» .entry)) (now (nodes .entry)) (now («ring_first» .entry)) (now («ring_length» .entry)) (now («ring_face» .entry))) (now («ring_side» .entry)) (now («ring_area» .entry)) «ring_count»
         → map holeOf (take (r .count) (r .list)) ≡ holesOf (spotIn (now (xs .entry)) (now (ys .entry))) (origins (now («dir_edges_src» .entry))) rs) ⌝ }
     ensures few { λ r. ⌜ (r .count ≤ limits .edges) × (length (r .list) ≡ limits .edges) ⌝ }
 {
     let mut rings = [0u16; MAX_EDGES];
     let mut numbers = [0i64; CANDIDATE_NUMBERS];
-    let count = list_enclosed(
+    let count = list_slanted(
+        slope,
+        wide(node_count),
         ring_count,
         nodes,
         xs,
@@ -84,6 +129,7 @@ fn holes_of_map(
         ring_count,
         ring_side,
         ring_area,
+        slope,
         count,
         &rings,
         &numbers,
@@ -126,7 +172,10 @@ pub fn find_holes(
     write_whole(nodes_y, wide(node_count), &mut ys);
     let mut nodes = [0u16; MAX_HALF_EDGES];
     write_nodes(half_edges, dir_edges_src, &mut nodes);
+    let slope = choose_slope(half_edges, dir_edges_src, nodes_x, nodes_y);
     holes_of_map(
+        slope,
+        node_count,
         ring_count,
         ring_side,
         ring_area,

@@ -15,6 +15,7 @@ ghost use Rattle.holders.specs.Holding.{Stamps};
 ghost use Rattle.holders.specs.Search.{Field};
 ghost use Rattle.holders.specs.Listing.{OpenListed};
 use crate::search::best_holder;
+use crate::slopes::along_of;
 use candidates::sides_at;
 use holes::Hole;
 use holes::no_holes;
@@ -22,6 +23,7 @@ use ring_lists::OPEN;
 use ring_lists::doubled_area;
 use tables::MAX_EDGES;
 use tables::MAX_NODES;
+use tables::NodeId;
 use tables::wide;
 
 // The holder of a ring that no ring holds: the one outside.
@@ -36,6 +38,7 @@ pub struct HoleList {
 // The number of the ring that holds a ring.
 fn holder_of(
     ring: u16,
+    slope: u8,
     count: usize,
     rings: &[u16],
     numbers: &[i64],
@@ -52,20 +55,21 @@ fn holder_of(
     ys: &[i64],
     stamps: &mut [u16],
 ) -> u16
-    requires { ⌜ ((rs : List Ring) × (bound : ℕ) × Field rs (mapOf (now «dir_edges_src») (now xs) (now ys) (now «half_edges») (now nodes) (now «ring_first») (now «ring_length») (now «ring_face»)) bound (now rings) (now numbers) count × Stamps rs (now «dir_edges_src») bound (now stamps) × (ring < length rs)) ⌝ }
+    requires { ⌜ ((rs : List Ring) × (bound : ℕ) × Field rs (mapOf (now «dir_edges_src») (now xs) (now ys) (now «half_edges») (now nodes) (now «ring_first») (now «ring_length») (now «ring_face»)) bound slope (now rings) (now numbers) count × Stamps rs (now «dir_edges_src») bound (now stamps) × (ring < length rs)) ⌝ }
     requires { ⌜ InOrder (now numbers) count (now order) × Passable (now numbers) (now order) count (now least) (now reaches) ⌝ }
-    ensures holder { λ r. ⌜ ((rs : List Ring) (bound : ℕ) → Field rs (mapOf (now («dir_edges_src» .entry)) (now (xs .entry)) (now (ys .entry)) (now («half_edges» .entry)) (now (nodes .entry)) (now («ring_first» .entry)) (now («ring_length» .entry)) (now («ring_face» .entry))) bound (now (rings .entry)) (now (numbers .entry)) count → ring < length rs → r ≡ holderOf (spotIn (now (xs .entry)) (now (ys .entry))) (origins (now («dir_edges_src» .entry))) rs (ringAt rs ring)) ⌝ }
-    ensures stamps { λ _. ⌜ ((rs : List Ring) (bound : ℕ) → Field rs (mapOf (now («dir_edges_src» .entry)) (now (xs .entry)) (now (ys .entry)) (now («half_edges» .entry)) (now (nodes .entry)) (now («ring_first» .entry)) (now («ring_length» .entry)) (now («ring_face» .entry))) bound (now (rings .entry)) (now (numbers .entry)) count → Stamps rs (now («dir_edges_src» .entry)) bound (now (stamps .entry)) → Stamps rs (now («dir_edges_src» .entry)) bound (now (stamps .exit))) ⌝ }
+    ensures holder { λ r. ⌜ ((rs : List Ring) (bound : ℕ) → Field rs (mapOf (now («dir_edges_src» .entry)) (now (xs .entry)) (now (ys .entry)) (now («half_edges» .entry)) (now (nodes .entry)) (now («ring_first» .entry)) (now («ring_length» .entry)) (now («ring_face» .entry))) bound slope (now (rings .entry)) (now (numbers .entry)) count → ring < length rs → r ≡ holderOf (spotIn (now (xs .entry)) (now (ys .entry))) (origins (now («dir_edges_src» .entry))) rs (ringAt rs ring)) ⌝ }
+    ensures stamps { λ _. ⌜ ((rs : List Ring) (bound : ℕ) → Field rs (mapOf (now («dir_edges_src» .entry)) (now (xs .entry)) (now (ys .entry)) (now («half_edges» .entry)) (now (nodes .entry)) (now («ring_first» .entry)) (now («ring_length» .entry)) (now («ring_face» .entry))) bound slope (now (rings .entry)) (now (numbers .entry)) count → Stamps rs (now («dir_edges_src» .entry)) bound (now (stamps .entry)) → Stamps rs (now («dir_edges_src» .entry)) bound (now (stamps .exit))) ⌝ }
 {
     let i = wide(ring);
     let sides = sides_at(ring, nodes, xs, ys, ring_first, ring_length);
     let corner = wide(sides.left);
-    let x = xs[corner];
     let y = ys[corner];
+    let x = along_of(slope, xs[corner], y);
     let first = wide(ring_first[i]);
     let end = first + wide(ring_length[i]);
     let best = best_holder(
         &nodes[first..end],
+        NodeId(sides.left),
         x,
         y,
         count,
@@ -95,6 +99,7 @@ pub fn list_holes(
     ring_count: u16,
     ring_side: &[u8],
     ring_area: &[f64],
+    slope: u8,
     count: usize,
     rings: &[u16],
     numbers: &[i64],
@@ -110,9 +115,9 @@ pub fn list_holes(
     xs: &[i64],
     ys: &[i64],
 ) -> HoleList
-    requires { ⌜ ((rs : List Ring) × (bound : ℕ) × Field rs (mapOf (now «dir_edges_src») (now xs) (now ys) (now «half_edges») (now nodes) (now «ring_first») (now «ring_length») (now «ring_face»)) bound (now rings) (now numbers) count × OpenListed rs (now «ring_side») (now «ring_area») «ring_count» × (bound ≤ limits .nodes)) ⌝ }
+    requires { ⌜ ((rs : List Ring) × (bound : ℕ) × Field rs (mapOf (now «dir_edges_src») (now xs) (now ys) (now «half_edges») (now nodes) (now «ring_first») (now «ring_length») (now «ring_face»)) bound slope (now rings) (now numbers) count × OpenListed rs (now «ring_side») (now «ring_area») «ring_count» × (bound ≤ limits .nodes)) ⌝ }
     requires { ⌜ InOrder (now numbers) count (now order) × Passable (now numbers) (now order) count (now least) (now reaches) ⌝ }
-    ensures holes { λ r. ⌜ ((rs : List Ring) (bound : ℕ) → Field rs (mapOf (now («dir_edges_src» .entry)) (now (xs .entry)) (now (ys .entry)) (now («half_edges» .entry)) (now (nodes .entry)) (now («ring_first» .entry)) (now («ring_length» .entry)) (now («ring_face» .entry))) bound (now (rings .entry)) (now (numbers .entry)) count → OpenListed rs (now («ring_side» .entry)) (now («ring_area» .entry)) «ring_count» → bound ≤ limits .nodes → map holeOf (take (r .count) (r .list)) ≡ holesOf (spotIn (now (xs .entry)) (now (ys .entry))) (origins (now («dir_edges_src» .entry))) rs) ⌝ }
+    ensures holes { λ r. ⌜ ((rs : List Ring) (bound : ℕ) → Field rs (mapOf (now («dir_edges_src» .entry)) (now (xs .entry)) (now (ys .entry)) (now («half_edges» .entry)) (now (nodes .entry)) (now («ring_first» .entry)) (now («ring_length» .entry)) (now («ring_face» .entry))) bound slope (now (rings .entry)) (now (numbers .entry)) count → OpenListed rs (now («ring_side» .entry)) (now («ring_area» .entry)) «ring_count» → bound ≤ limits .nodes → map holeOf (take (r .count) (r .list)) ≡ holesOf (spotIn (now (xs .entry)) (now (ys .entry))) (origins (now («dir_edges_src» .entry))) rs) ⌝ }
     ensures few { λ r. ⌜ (r .count ≤ limits .edges) × (length (r .list) ≡ limits .edges) ⌝ }
 {
     let mut list = no_holes();
@@ -124,6 +129,7 @@ pub fn list_holes(
         if ring_side[ring] == OPEN {
             let holder = holder_of(
                 i,
+                slope,
                 count,
                 rings,
                 numbers,

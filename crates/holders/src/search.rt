@@ -6,19 +6,20 @@ ghost use Prim.Native.Nat.{ℕ, _+_, _*_, _<_, _≤_};
 ghost use lib.IntN.{ℤ};
 ghost use lib.ListN.{length, getD};
 ghost use Rattle.rules.specs.Face.{Ring};
-ghost use Rattle.corners.specs.Nodes.{NodesWithin};
 ghost use Rattle.candidates.specs.Candidates.{numbersOf};
 ghost use Rattle.candidates.specs.Order.{InOrder};
 ghost use Rattle.candidates.specs.Passing.{Passable};
 ghost use Rattle.holders.specs.Maps.{mapOf};
-ghost use Rattle.holders.specs.Holding.{Stamps};
+ghost use Rattle.holders.specs.Holding.{Corner, Stamps};
 ghost use Rattle.holders.specs.Search.{firstBy, Field, Opening, holdsAt, Best};
+ghost use Rattle.inside.specs.Spots.{NodesWithin};
 use crate::holding::ring_holds;
 use candidates::doubled_of;
 use candidates::in_box;
 use candidates::next_end;
 use candidates::place_for;
 use candidates::rest_is_larger;
+use tables::NodeId;
 use tables::wide;
 
 // Whether candidate j comes before the best so far; there is none yet where best is count.
@@ -51,6 +52,7 @@ fn comes_first(
 fn candidate_holds(
     j: usize,
     inner: &[u16],
+    corner: NodeId,
     count: usize,
     rings: &[u16],
     numbers: &[i64],
@@ -64,24 +66,15 @@ fn candidate_holds(
     ys: &[i64],
     stamps: &mut [u16],
 ) -> bool
-    requires { ⌜ ((rs : List Ring) × (bound : ℕ) × Field rs (mapOf (now «dir_edges_src») (now xs) (now ys) (now «half_edges») (now nodes) (now «ring_first») (now «ring_length») (now «ring_face»)) bound (now rings) (now numbers) count × Stamps rs (now «dir_edges_src») bound (now stamps) × NodesWithin (now inner) bound × (j < count)) ⌝ }
-    ensures held { λ r. ⌜ ((rs : List Ring) (bound : ℕ) (o : Ring) (x y : ℤ) → Field rs (mapOf (now («dir_edges_src» .entry)) (now (xs .entry)) (now (ys .entry)) (now («half_edges» .entry)) (now (nodes .entry)) (now («ring_first» .entry)) (now («ring_length» .entry)) (now («ring_face» .entry))) bound (now (rings .entry)) (now (numbers .entry)) count → Opening o (mapOf (now («dir_edges_src» .entry)) (now (xs .entry)) (now (ys .entry)) (now («half_edges» .entry)) (now (nodes .entry)) (now («ring_first» .entry)) (now («ring_length» .entry)) (now («ring_face» .entry))) bound (now (inner .entry)) x y → r ≡ holdsAt rs (mapOf (now («dir_edges_src» .entry)) (now (xs .entry)) (now (ys .entry)) (now («half_edges» .entry)) (now (nodes .entry)) (now («ring_first» .entry)) (now («ring_length» .entry)) (now («ring_face» .entry))) o (now (rings .entry)) j) ⌝ }
-    ensures stamps { λ _. ⌜ ((rs : List Ring) (bound : ℕ) → Field rs (mapOf (now («dir_edges_src» .entry)) (now (xs .entry)) (now (ys .entry)) (now («half_edges» .entry)) (now (nodes .entry)) (now («ring_first» .entry)) (now («ring_length» .entry)) (now («ring_face» .entry))) bound (now (rings .entry)) (now (numbers .entry)) count → Stamps rs (now («dir_edges_src» .entry)) bound (now (stamps .entry)) → Stamps rs (now («dir_edges_src» .entry)) bound (now (stamps .exit))) ⌝ }
+    requires { ⌜ ((rs : List Ring) × (bound : ℕ) × (slope : ℕ) × Field rs (mapOf (now «dir_edges_src») (now xs) (now ys) (now «half_edges») (now nodes) (now «ring_first») (now «ring_length») (now «ring_face»)) bound slope (now rings) (now numbers) count × Stamps rs (now «dir_edges_src») bound (now stamps) × NodesWithin (now inner) bound × Corner (now xs) (now ys) (now inner) (corner .0) × (j < count)) ⌝ }
+    ensures held { λ r. ⌜ ((rs : List Ring) (bound slope : ℕ) (o : Ring) (x y : ℤ) → Field rs (mapOf (now («dir_edges_src» .entry)) (now (xs .entry)) (now (ys .entry)) (now («half_edges» .entry)) (now (nodes .entry)) (now («ring_first» .entry)) (now («ring_length» .entry)) (now («ring_face» .entry))) bound slope (now (rings .entry)) (now (numbers .entry)) count → Opening o (mapOf (now («dir_edges_src» .entry)) (now (xs .entry)) (now (ys .entry)) (now («half_edges» .entry)) (now (nodes .entry)) (now («ring_first» .entry)) (now («ring_length» .entry)) (now («ring_face» .entry))) bound slope (now (inner .entry)) (corner .0) x y → r ≡ holdsAt rs (mapOf (now («dir_edges_src» .entry)) (now (xs .entry)) (now (ys .entry)) (now («half_edges» .entry)) (now (nodes .entry)) (now («ring_first» .entry)) (now («ring_length» .entry)) (now («ring_face» .entry))) o (now (rings .entry)) j) ⌝ }
+    ensures stamps { λ _. ⌜ ((rs : List Ring) (bound slope : ℕ) → Field rs (mapOf (now («dir_edges_src» .entry)) (now (xs .entry)) (now (ys .entry)) (now («half_edges» .entry)) (now (nodes .entry)) (now («ring_first» .entry)) (now («ring_length» .entry)) (now («ring_face» .entry))) bound slope (now (rings .entry)) (now (numbers .entry)) count → Stamps rs (now («dir_edges_src» .entry)) bound (now (stamps .entry)) → Stamps rs (now («dir_edges_src» .entry)) bound (now (stamps .exit))) ⌝ }
 {
     let ring = rings[j];
     let i = wide(ring);
     let first = wide(ring_first[i]);
     let end = first + wide(ring_length[i]);
-    ring_holds(
-        &half_edges[first..end],
-        &nodes[first..end],
-        inner,
-        dir_edges_src,
-        xs,
-        ys,
-        ring + 1,
-        stamps,
-    )
+    ring_holds(&nodes[first..end], inner, corner, xs, ys, ring + 1, stamps)
 }
 
 // The best with the candidate at a place of the order: it is asked only where it would be the best,
@@ -90,6 +83,7 @@ fn improve(
     place: usize,
     best: usize,
     inner: &[u16],
+    corner: NodeId,
     x: i64,
     y: i64,
     count: usize,
@@ -106,10 +100,10 @@ fn improve(
     ys: &[i64],
     stamps: &mut [u16],
 ) -> usize
-    requires { ⌜ ((rs : List Ring) × (bound : ℕ) × (o : Ring) × Field rs (mapOf (now «dir_edges_src») (now xs) (now ys) (now «half_edges») (now nodes) (now «ring_first») (now «ring_length») (now «ring_face»)) bound (now rings) (now numbers) count × Opening o (mapOf (now «dir_edges_src») (now xs) (now ys) (now «half_edges») (now nodes) (now «ring_first») (now «ring_length») (now «ring_face»)) bound (now inner) x y × Stamps rs (now «dir_edges_src») bound (now stamps) × (place < count) × (best ≤ count)) ⌝ }
+    requires { ⌜ ((rs : List Ring) × (bound : ℕ) × (slope : ℕ) × (o : Ring) × Field rs (mapOf (now «dir_edges_src») (now xs) (now ys) (now «half_edges») (now nodes) (now «ring_first») (now «ring_length») (now «ring_face»)) bound slope (now rings) (now numbers) count × Opening o (mapOf (now «dir_edges_src») (now xs) (now ys) (now «half_edges») (now nodes) (now «ring_first») (now «ring_length») (now «ring_face»)) bound slope (now inner) (corner .0) x y × Stamps rs (now «dir_edges_src») bound (now stamps) × (place < count) × (best ≤ count)) ⌝ }
     requires { ⌜ InOrder (now numbers) count (now order) ⌝ }
-    ensures best { λ r. ⌜ ((rs : List Ring) (bound : ℕ) (o : Ring) → Field rs (mapOf (now («dir_edges_src» .entry)) (now (xs .entry)) (now (ys .entry)) (now («half_edges» .entry)) (now (nodes .entry)) (now («ring_first» .entry)) (now («ring_length» .entry)) (now («ring_face» .entry))) bound (now (rings .entry)) (now (numbers .entry)) count → Opening o (mapOf (now («dir_edges_src» .entry)) (now (xs .entry)) (now (ys .entry)) (now («half_edges» .entry)) (now (nodes .entry)) (now («ring_first» .entry)) (now («ring_length» .entry)) (now («ring_face» .entry))) bound (now (inner .entry)) x y → Best rs (mapOf (now («dir_edges_src» .entry)) (now (xs .entry)) (now (ys .entry)) (now («half_edges» .entry)) (now (nodes .entry)) (now («ring_first» .entry)) (now («ring_length» .entry)) (now («ring_face» .entry))) o (now (rings .entry)) (now (order .entry)) count (place + 1) best → Best rs (mapOf (now («dir_edges_src» .entry)) (now (xs .entry)) (now (ys .entry)) (now («half_edges» .entry)) (now (nodes .entry)) (now («ring_first» .entry)) (now («ring_length» .entry)) (now («ring_face» .entry))) o (now (rings .entry)) (now (order .entry)) count place r) ⌝ }
-    ensures stamps { λ _. ⌜ ((rs : List Ring) (bound : ℕ) → Field rs (mapOf (now («dir_edges_src» .entry)) (now (xs .entry)) (now (ys .entry)) (now («half_edges» .entry)) (now (nodes .entry)) (now («ring_first» .entry)) (now («ring_length» .entry)) (now («ring_face» .entry))) bound (now (rings .entry)) (now (numbers .entry)) count → Stamps rs (now («dir_edges_src» .entry)) bound (now (stamps .entry)) → Stamps rs (now («dir_edges_src» .entry)) bound (now (stamps .exit))) ⌝ }
+    ensures best { λ r. ⌜ ((rs : List Ring) (bound slope : ℕ) (o : Ring) → Field rs (mapOf (now («dir_edges_src» .entry)) (now (xs .entry)) (now (ys .entry)) (now («half_edges» .entry)) (now (nodes .entry)) (now («ring_first» .entry)) (now («ring_length» .entry)) (now («ring_face» .entry))) bound slope (now (rings .entry)) (now (numbers .entry)) count → Opening o (mapOf (now («dir_edges_src» .entry)) (now (xs .entry)) (now (ys .entry)) (now («half_edges» .entry)) (now (nodes .entry)) (now («ring_first» .entry)) (now («ring_length» .entry)) (now («ring_face» .entry))) bound slope (now (inner .entry)) (corner .0) x y → Best rs (mapOf (now («dir_edges_src» .entry)) (now (xs .entry)) (now (ys .entry)) (now («half_edges» .entry)) (now (nodes .entry)) (now («ring_first» .entry)) (now («ring_length» .entry)) (now («ring_face» .entry))) o (now (rings .entry)) (now (order .entry)) count (place + 1) best → Best rs (mapOf (now («dir_edges_src» .entry)) (now (xs .entry)) (now (ys .entry)) (now («half_edges» .entry)) (now (nodes .entry)) (now («ring_first» .entry)) (now («ring_length» .entry)) (now («ring_face» .entry))) o (now (rings .entry)) (now (order .entry)) count place r) ⌝ }
+    ensures stamps { λ _. ⌜ ((rs : List Ring) (bound slope : ℕ) → Field rs (mapOf (now («dir_edges_src» .entry)) (now (xs .entry)) (now (ys .entry)) (now («half_edges» .entry)) (now (nodes .entry)) (now («ring_first» .entry)) (now («ring_length» .entry)) (now («ring_face» .entry))) bound slope (now (rings .entry)) (now (numbers .entry)) count → Stamps rs (now («dir_edges_src» .entry)) bound (now (stamps .entry)) → Stamps rs (now («dir_edges_src» .entry)) bound (now (stamps .exit))) ⌝ }
 {
     let j = wide(order[place]);
     if comes_first(j, best, count, rings, numbers, ring_face) {
@@ -117,6 +111,7 @@ fn improve(
             if candidate_holds(
                 j,
                 inner,
+                corner,
                 count,
                 rings,
                 numbers,
@@ -142,6 +137,7 @@ fn improve(
 // ends where all that is left is larger.
 pub fn best_holder(
     inner: &[u16],
+    corner: NodeId,
     x: i64,
     y: i64,
     count: usize,
@@ -160,10 +156,10 @@ pub fn best_holder(
     ys: &[i64],
     stamps: &mut [u16],
 ) -> usize
-    requires { ⌜ ((rs : List Ring) × (bound : ℕ) × (o : Ring) × Field rs (mapOf (now «dir_edges_src») (now xs) (now ys) (now «half_edges») (now nodes) (now «ring_first») (now «ring_length») (now «ring_face»)) bound (now rings) (now numbers) count × Opening o (mapOf (now «dir_edges_src») (now xs) (now ys) (now «half_edges») (now nodes) (now «ring_first») (now «ring_length») (now «ring_face»)) bound (now inner) x y × Stamps rs (now «dir_edges_src») bound (now stamps)) ⌝ }
+    requires { ⌜ ((rs : List Ring) × (bound : ℕ) × (slope : ℕ) × (o : Ring) × Field rs (mapOf (now «dir_edges_src») (now xs) (now ys) (now «half_edges») (now nodes) (now «ring_first») (now «ring_length») (now «ring_face»)) bound slope (now rings) (now numbers) count × Opening o (mapOf (now «dir_edges_src») (now xs) (now ys) (now «half_edges») (now nodes) (now «ring_first») (now «ring_length») (now «ring_face»)) bound slope (now inner) (corner .0) x y × Stamps rs (now «dir_edges_src») bound (now stamps)) ⌝ }
     requires { ⌜ InOrder (now numbers) count (now order) × Passable (now numbers) (now order) count (now least) (now reaches) ⌝ }
-    ensures best { λ r. ⌜ ((rs : List Ring) (bound : ℕ) (o : Ring) → Field rs (mapOf (now («dir_edges_src» .entry)) (now (xs .entry)) (now (ys .entry)) (now («half_edges» .entry)) (now (nodes .entry)) (now («ring_first» .entry)) (now («ring_length» .entry)) (now («ring_face» .entry))) bound (now (rings .entry)) (now (numbers .entry)) count → Opening o (mapOf (now («dir_edges_src» .entry)) (now (xs .entry)) (now (ys .entry)) (now («half_edges» .entry)) (now (nodes .entry)) (now («ring_first» .entry)) (now («ring_length» .entry)) (now («ring_face» .entry))) bound (now (inner .entry)) x y → Best rs (mapOf (now («dir_edges_src» .entry)) (now (xs .entry)) (now (ys .entry)) (now («half_edges» .entry)) (now (nodes .entry)) (now («ring_first» .entry)) (now («ring_length» .entry)) (now («ring_face» .entry))) o (now (rings .entry)) (now (order .entry)) count 0 r) ⌝ }
-    ensures stamps { λ _. ⌜ ((rs : List Ring) (bound : ℕ) → Field rs (mapOf (now («dir_edges_src» .entry)) (now (xs .entry)) (now (ys .entry)) (now («half_edges» .entry)) (now (nodes .entry)) (now («ring_first» .entry)) (now («ring_length» .entry)) (now («ring_face» .entry))) bound (now (rings .entry)) (now (numbers .entry)) count → Stamps rs (now («dir_edges_src» .entry)) bound (now (stamps .entry)) → Stamps rs (now («dir_edges_src» .entry)) bound (now (stamps .exit))) ⌝ }
+    ensures best { λ r. ⌜ ((rs : List Ring) (bound slope : ℕ) (o : Ring) → Field rs (mapOf (now («dir_edges_src» .entry)) (now (xs .entry)) (now (ys .entry)) (now («half_edges» .entry)) (now (nodes .entry)) (now («ring_first» .entry)) (now («ring_length» .entry)) (now («ring_face» .entry))) bound slope (now (rings .entry)) (now (numbers .entry)) count → Opening o (mapOf (now («dir_edges_src» .entry)) (now (xs .entry)) (now (ys .entry)) (now («half_edges» .entry)) (now (nodes .entry)) (now («ring_first» .entry)) (now («ring_length» .entry)) (now («ring_face» .entry))) bound slope (now (inner .entry)) (corner .0) x y → Best rs (mapOf (now («dir_edges_src» .entry)) (now (xs .entry)) (now (ys .entry)) (now («half_edges» .entry)) (now (nodes .entry)) (now («ring_first» .entry)) (now («ring_length» .entry)) (now («ring_face» .entry))) o (now (rings .entry)) (now (order .entry)) count 0 r) ⌝ }
+    ensures stamps { λ _. ⌜ ((rs : List Ring) (bound slope : ℕ) → Field rs (mapOf (now («dir_edges_src» .entry)) (now (xs .entry)) (now (ys .entry)) (now («half_edges» .entry)) (now (nodes .entry)) (now («ring_first» .entry)) (now («ring_length» .entry)) (now («ring_face» .entry))) bound slope (now (rings .entry)) (now (numbers .entry)) count → Stamps rs (now («dir_edges_src» .entry)) bound (now (stamps .entry)) → Stamps rs (now («dir_edges_src» .entry)) bound (now (stamps .exit))) ⌝ }
 {
     let mut best = count;
     let mut end = place_for(numbers, order, count, x);
@@ -176,6 +172,7 @@ pub fn best_holder(
             place,
             best,
             inner,
+            corner,
             x,
             y,
             count,

@@ -35,7 +35,7 @@ use Rattle.extracting.proofs.Tallying.{front-cut}
 use Rattle.ring_lists.specs.Shown.{Shown}
 use Rattle.ring_lists.proofs.Written.{listed-at, listed-long, written-shown}
 use Rattle.inside.specs.Spots.{LineWithin}
-use Rattle.holders.specs.Maps.{origins}
+use Rattle.holders.specs.Maps.{origins, Starting}
 use Rattle.holders.specs.Asked.{Placed, Closed, Asked}
 
 -- ---- the origins alone
@@ -120,11 +120,12 @@ module _ (s : State) (inX : limits .nodes ≤ length (s .nodeX)) (inY : limits .
   row-short : length row ≤ 2 * limits .edges
   row-short = omega (arith, ap length row-is, flat-few limits s sense, ok .edges)
 
-  -- each stands in the table of sources
-  row-starts : (k : ℕ) → k < length row → getD row k 0 < length (s .source)
+  -- each stands in the table of sources, and starts at a node
+  row-starts : Starting row (s .source) (s .nodes)
   row-starts k l =
       let h = getD row k 0 in
-      in-source h (omega (arith, halves-are s, rings-inside (arrangement s) sane h (subst (In h) row-is (in-at row k l))))
+      let low : h < 2 * s .edges = omega (arith, halves-are s, rings-inside (arrangement s) sane h (subst (In h) row-is (in-at row k l))) in
+      (in-source h low, source-below limits s ok h low)
 
   -- ---- what ring extraction leaves
 
@@ -159,7 +160,7 @@ module _ (s : State) (inX : limits .nodes ≤ length (s .nodeX)) (inY : limits .
       shown = front-shown;
       counted = e .count;
       short = subst (λ l. length l ≤ 2 * limits .edges) (sym front-is) row-short;
-      starts = subst (λ l. (k : ℕ) → k < length l → getD l k 0 < length (s .source)) (sym front-is) row-starts;
+      starts = subst (λ l. Starting l (s .source) (s .nodes)) (sym front-is) row-starts;
       closed = ring-closed;
       inSide = listed-long s (λ w. sideNumber (w .side)) (out′ .side) (out .side) (e .side);
       sided = side-is;

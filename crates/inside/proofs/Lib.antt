@@ -2,5 +2,6 @@
 pub mod Words
 pub mod Turns
 pub mod Meetings
-pub mod Parity
+pub mod Walking
+pub mod Standing
 pub mod Tables

@@ -2,12 +2,12 @@
 use Prim.Native.Nat.{ℕ, _+_, _*_, _^_, _<_, _≤_}
 use native.Mathlib.Omega.{arith}
 use mathlib.Core.Path.{_≡_, refl, ap, ap₂, sym, _∙_, subst}
-use lib.IntN.{ℤ, pos, negsuc, natAbs, _-ℤ_, _*ℤ_}
+use lib.IntN.{ℤ, pos, negsuc, natAbs, _+ℤ_, _-ℤ_, _*ℤ_}
 use lib.Signed.{mag}
 use mir.Syntax.{w64}
 use mir.Val.{SFits, ofZ, toZ}
 use mir.ValLaws.{toZ-ofZ}
-use Rattle.geometry.proofs.Integers.{natAbs-sub, mul-bound}
+use Rattle.geometry.proofs.Integers.{natAbs-add, natAbs-sub, mul-bound}
 
 -- an integer stored in 64 bits and read back
 abbrev pub word : ℤ → ℤ
@@ -48,6 +48,10 @@ module _ {e z f y : ℤ} {m n : ℕ} (s : Sized e z m) (t : Sized f y n) where
   -- a difference
   pub minus : Sized (e -ℤ f) (z -ℤ y) (m + n)
   minus = record { is = ap₂ _-ℤ_ (s .is) (t .is); small = omega (arith, natAbs-sub z y, s .small, t .small) }
+
+  -- a sum
+  pub both : Sized (e +ℤ f) (z +ℤ y) (m + n)
+  both = record { is = ap₂ _+ℤ_ (s .is) (t .is); small = omega (arith, natAbs-add z y, s .small, t .small) }
 
   -- a product
   pub times : Sized (e *ℤ f) (z *ℤ y) (m * n)

@@ -1,3 +1,4 @@
--- Points in whole numbers, what the test of a ring reads, and how a line stands to a point.
+-- Points in whole numbers, what the test of a ring reads, and how a line and a ring stand to a point.
 pub mod Spots
 pub mod Meeting
+pub mod Standing

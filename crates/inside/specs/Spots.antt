@@ -3,6 +3,7 @@ use Prim.Native.Nat.{ℕ, _<_, _≤_}
 use mathlib.Core.List.{List}
 use lib.IntN.{ℤ, pos, natAbs}
 use lib.ListN.{length, getD}
+use Rattle.lists.specs.Lists.{In}
 use Rattle.geometry.specs.Angle.{Point}
 use Rattle.rules.specs.HalfEdge.{twin}
 
@@ -25,6 +26,10 @@ AllNear bound a b p = Near bound a × Near bound b × Near bound p
 -- of the first n entries of a table
 abbrev pub Within : ℕ → List ℤ → ℕ → Type 0
 Within bound xs n = (k : ℕ) → k < n → natAbs (getD xs k (pos 0)) ≤ bound
+
+-- every node of a list is below a count
+abbrev pub NodesWithin : List ℕ → ℕ → Type 0
+NodesWithin nodes count = (n : ℕ) → In n nodes → n < count
 
 -- a half-edge and its twin stand in the table of sources, and start at nodes below the count
 pub record LineWithin (h : ℕ) (source : List ℕ) (nodes : ℕ) : Type 0 where

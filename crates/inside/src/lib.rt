@@ -5,6 +5,7 @@ mod lines;
 mod rings;
 mod wholes;
 
-pub use rings::is_inside;
+pub use rings::Stands;
+pub use rings::ring_stands;
 pub use wholes::whole;
 pub use wholes::write_whole;

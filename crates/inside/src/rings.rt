@@ -1,71 +1,61 @@
 // A ring and a point.
 ghost use mathlib.Core.Path.{_≡_};
-ghost use mathlib.Core.List.{[]};
+ghost use mathlib.Core.Bool.{false};
 ghost use Prim.Native.Nat.{ℕ, _<_};
-ghost use lib.ListN.{length, getD};
+ghost use lib.ListN.{length};
+ghost use Rattle.lists.specs.Lists.{lastOf};
 ghost use Rattle.geometry.specs.Coordinate.{coordinateBound};
-ghost use Rattle.rules.specs.HalfEdge.{twin};
-ghost use Rattle.rules.specs.State.{arrangementIn};
-ghost use Rattle.rules.specs.Holes.{inside};
-ghost use Rattle.inside.specs.Spots.{spot, spotIn, Near, LineWithin, RingWithin, Spotted};
+ghost use Rattle.inside.specs.Spots.{spot, spotIn, Near, Spotted, NodesWithin};
 ghost use Rattle.inside.specs.Meeting.{meetsOf};
+ghost use Rattle.inside.specs.Standing.{standsFrom};
 use super::lines::Meets;
 use super::lines::line_meets;
-use tables::DirEdgeId;
-use tables::twin_of;
+use tables::NodeId;
 use tables::wide;
 
-// The node where a half-edge starts, as an index.
-fn origin_of(dir_edges_src: &[u16], half: DirEdgeId) -> usize
-    requires { ⌜ half .0 < length (now «dir_edges_src») ⌝ }
-    ensures { λ r. ⌜ r ≡ getD (now («dir_edges_src» .entry)) (half .0) 0 ⌝ }
-{
-    wide(dir_edges_src[wide(half.0)])
+// Strictly inside by the even-odd rule, outside, or on one of the ring's lines.
+pub enum Stands {
+    Inside,
+    Outside,
+    OnRing,
 }
 
-// How a half-edge's line stands to the point.
-fn half_meets(
-    half: DirEdgeId,
-    dir_edges_src: &[u16],
-    xs: &[i64],
-    ys: &[i64],
-    px: i64,
-    py: i64,
-) -> Meets
-    requires { ⌜ ((nodes : ℕ) × LineWithin (half .0) (now «dir_edges_src») nodes × Spotted coordinateBound nodes (now xs) (now ys) × Near coordinateBound (spot px py)) ⌝ }
-    ensures { λ r. ⌜ r ≡ meetsOf (spotIn (now (xs .entry)) (now (ys .entry)) (getD (now («dir_edges_src» .entry)) (half .0) 0)) (spotIn (now (xs .entry)) (now (ys .entry)) (getD (now («dir_edges_src» .entry)) (twin (half .0)) 0)) (spot px py) ⌝ }
+// How the line between two nodes stands to the point.
+fn nodes_meet(from: NodeId, to: NodeId, xs: &[i64], ys: &[i64], px: i64, py: i64) -> Meets
+    requires { ⌜ ((nodes : ℕ) × (from .0 < nodes) × (to .0 < nodes) × Spotted coordinateBound nodes (now xs) (now ys) × Near coordinateBound (spot px py)) ⌝ }
+    ensures { λ r. ⌜ r ≡ meetsOf (spotIn (now (xs .entry)) (now (ys .entry)) (from .0)) (spotIn (now (xs .entry)) (now (ys .entry)) (to .0)) (spot px py) ⌝ }
 {
-    let a = origin_of(dir_edges_src, half);
-    let b = origin_of(dir_edges_src, twin_of(half));
+    let a = wide(from.0);
+    let b = wide(to.0);
     line_meets(xs[a], ys[a], xs[b], ys[b], px, py)
 }
 
-// Strictly inside: on none of the ring's lines, and an odd number of them cross to the right of the
-// point.
-pub fn is_inside(
-    ring: &[u16],
-    dir_edges_src: &[u16],
-    xs: &[i64],
-    ys: &[i64],
-    px: i64,
-    py: i64,
-) -> bool
-    requires { ⌜ ((nodes : ℕ) × RingWithin (now ring) (now «dir_edges_src») nodes × Spotted coordinateBound nodes (now xs) (now ys) × Near coordinateBound (spot px py)) ⌝ }
-    ensures { λ r. ⌜ r ≡ inside (spotIn (now (xs .entry)) (now (ys .entry))) (arrangementIn 0 0 (now («dir_edges_src» .entry)) [] []) (now (ring .entry)) (spot px py) ⌝ }
+// How the point stands to the ring with these nodes, which has one: each line goes from a node to the
+// next, and the first of them from the last node. An odd number of them cross to the right of a point
+// that is inside.
+pub fn ring_stands(nodes: &[u16], xs: &[i64], ys: &[i64], px: i64, py: i64) -> Stands
+    requires { ⌜ ((count : ℕ) × (0 < length (now nodes)) × NodesWithin (now nodes) count × Spotted coordinateBound count (now xs) (now ys) × Near coordinateBound (spot px py)) ⌝ }
+    ensures { λ r. ⌜ r ≡ standsFrom (spotIn (now (xs .entry)) (now (ys .entry))) (spot px py) false (lastOf 0 (now (nodes .entry))) (now (nodes .entry)) ⌝ }
 {
+    let mut from = nodes[nodes.len() - 1];
     let mut odd = false;
     let mut k = 0;
-    while k < ring.len() {
-        match half_meets(DirEdgeId(ring[k]), dir_edges_src, xs, ys, px, py) {
+    while k < nodes.len() {
+        let to = nodes[k];
+        match nodes_meet(NodeId(from), NodeId(to), xs, ys, px, py) {
             Meets::OnLine => {
-                return false;
+                return Stands::OnRing;
             }
             Meets::Right => {
                 odd = !odd;
             }
             Meets::Apart => {}
         }
+        from = to;
         k += 1;
     }
-    odd
+    if odd {
+        return Stands::Inside;
+    }
+    Stands::Outside
 }

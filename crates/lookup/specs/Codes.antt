@@ -4,15 +4,16 @@ use mathlib.Core.List.{List}
 use lib.Ieee.{Float}
 use lib.ListN.{getD}
 use Rattle.rotation.specs.Rotation.{Key}
+use Rattle.rules.specs.Limits.{limits}
 use Rattle.rules.specs.State.{keyIn}
 
--- how many chains of nodes there are
+-- how many chains of nodes there are: two for each node that there may be
 abbrev pub nodeHeads : ℕ
-nodeHeads = 2048
+nodeHeads = 2 * limits .nodes
 
--- how many of half-edges
+-- how many of half-edges: two for each of these
 abbrev pub halfHeads : ℕ
-halfHeads = 4096
+halfHeads = 2 * (2 * limits .edges)
 
 -- of a key: the upper halves of its bits, which alone differ among whole numbers within the bound, multiplied by two odd numbers
 unfoldable pub keyCode : Key → ℕ

@@ -1,12 +1,15 @@
 // The codes by which nodes and half-edges are chained.
 ghost use mathlib.Core.Path.{_≡_};
 ghost use Rattle.lookup.specs.Codes.{keyCode, pairCode};
+use tables::MAX_HALF_EDGES;
+use tables::MAX_NODES;
 use tables::NodeId;
 
-// How many chains of nodes there are, and how many of half-edges.
-pub const NODE_HEADS: usize = 2048;
+// How many chains of nodes there are, and how many of half-edges: two for each, so that most chains of
+// full tables have one item or none.
+pub const NODE_HEADS: usize = 2 * MAX_NODES;
 
-pub const HALF_HEADS: usize = 4096;
+pub const HALF_HEADS: usize = 2 * MAX_HALF_EDGES;
 
 // Of the bits of a point's x and y.
 pub fn key_code(bits_x: u64, bits_y: u64) -> usize

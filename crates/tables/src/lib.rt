@@ -92,9 +92,9 @@ pub fn refusal_number(why: Refusal) -> u32
 }
 
 // How many nodes, edges, and pairs of a line id and a place the tables hold at most.
-pub const MAX_NODES: usize = 1024;
+pub const MAX_NODES: usize = 2048;
 
-pub const MAX_EDGES: usize = 1024;
+pub const MAX_EDGES: usize = 2048;
 
 pub const MAX_PAIRS: usize = 4096;
 

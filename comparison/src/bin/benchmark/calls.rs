@@ -31,10 +31,11 @@ type Times = [Duration; PHASES.len()];
 
 pub fn print_heading() {
     println!("medians in microseconds; ratio: library / original");
-    println!("input          edges  phase             library    original   ratio");
+    println!("input            edges  phase             library    original   ratio");
 }
 
-pub fn measure(name: &str, lines: &[Line3D]) {
+/// Prints what each phase takes, and answers how long the library takes from a file to its rings.
+pub fn measure(name: &str, lines: &[Line3D]) -> f64 {
     let bytes = crate::file(lines);
     let (mut library, mut original) = (Vec::new(), Vec::new());
     let mut graph = Graph::new();
@@ -52,9 +53,10 @@ pub fn measure(name: &str, lines: &[Line3D]) {
         let (library, original) = (of_phase(&library), of_phase(&original));
         let ratio = library / original;
         println!(
-            "{name:<13} {edges:>6}  {phase:<14} {library:>10.1}  {original:>10.1}  {ratio:>6.2}"
+            "{name:<15} {edges:>6}  {phase:<14} {library:>10.1}  {original:>10.1}  {ratio:>6.2}"
         );
     }
+    median(library.iter().map(|run| run[PHASES.len() - 1]).collect())
 }
 
 fn timed<T>(time: &mut Duration, work: impl FnOnce() -> T) -> T {

@@ -4,11 +4,11 @@ use Prim.Native.Nat.{_+_, _-_}
 use native.Mathlib.Omega.{arith}
 use mathlib.Core.Path.{_≡_, sym, ap, subst, _∙_}
 use lib.ListN.{length, getD, take, drop, length-take, length-drop}
-use Rattle.corners.specs.Nodes.{NodesWithin}
 use Rattle.corners.specs.Boxes.{Outermost}
 use Rattle.candidates.specs.Candidates.{nodesAt}
 use Rattle.candidates.proofs.sides_at.Statement.{statement}
 use Rattle.candidates.proofs.sides_at.Tie as tie
+use Rattle.inside.specs.Spots.{NodesWithin}
 
 wide-requires : tie.Need-wide-requires
 wide-requires c κs = search needs

@@ -104,7 +104,10 @@ slice-aggregate-write-nodes : tie.Need-slice-aggregate-write-nodes
 slice-aggregate-write-nodes c = search needs
 
 write-nodes-requires : tie.Need-write-nodes-requires
-write-nodes-requires c κs = let p = c .before .before .before .before .before .before .before .before .before .before .before .before .before .before .before .before .before .before .pre .1 in (omega (arith, p .short), p .starts)
+write-nodes-requires c κs = let p = c .before .before .before .before .before .before .before .before .before .before .before .before .before .before .before .before .before .before .pre .1 in (omega (arith, p .short), λ k l. p .starts k l .0)
+
+choose-slope-requires : tie.Need-choose-slope-requires
+choose-slope-requires c κs = let s = start (c .before) in let p = s .pre .1 in (s .args .node-count, p .placed .inXs, p .placed .inYs, p .starts)
 
 slice-aggregate-holes-of-map : tie.Need-slice-aggregate-holes-of-map
 slice-aggregate-holes-of-map c = search needs
@@ -117,14 +120,13 @@ slice-aggregate-holes-of-map-3 c = search needs
 
 holes-of-map-requires : tie.Need-holes-of-map-requires
 holes-of-map-requires c κs =
-    let w = c .before .before .before .before in
-    (start w .pre .0, start w .args .node-count, readied w (start w .pre .0) (start w .pre .1))
+    let w = c .before .before .before .before .before in
+    (start w .pre .0, readied w (start w .pre .0) (start w .pre .1))
 
 returns : tie.Need-returns
 returns c =
-    let w = c .before .before .before .before .before in
-    let s = start w in
-    (λ rs asked. c .holes-of-map .ensures .0 rs (s .args .node-count) (readied w rs asked) ∙ spots w rs asked, c .holes-of-map .ensures .1)
+    let w = c .before .before .before .before .before .before in
+    (λ rs asked. c .holes-of-map .ensures .0 rs (readied w rs asked) ∙ spots w rs asked, c .holes-of-map .ensures .1)
 
 pub find-holes-spec : {M : Type 1} → statement M
 find-holes-spec =
@@ -138,6 +140,7 @@ find-holes-spec =
     write-whole-requires-2
     slice-aggregate-write-nodes
     write-nodes-requires
+    choose-slope-requires
     slice-aggregate-holes-of-map
     slice-aggregate-holes-of-map-2
     slice-aggregate-holes-of-map-3

@@ -1,60 +1,87 @@
 -- `holes_of_map` meets its contract: the enclosed rings are listed and ordered, and each open one is searched for.
-use Prim.Native.Nat.{ℕ, _≤_}
+use Prim.Native.Nat.{ℕ, _*_, _≤_}
 use native.Mathlib.Omega.{arith}
+use mathlib.Core.Path.{_≡_, sym, subst}
 use mathlib.Core.List.{List}
-use lib.IntN.{ℤ}
+use lib.IntN.{ℤ, pos}
+use lib.ListN.{replicate}
 use Rattle.rules.specs.Limits.{limits}
 use Rattle.rules.specs.Face.{Ring}
-use Rattle.candidates.specs.Candidates.{Candidates}
+use Rattle.candidates.specs.Candidates.{numbersOf, Candidates}
 use Rattle.holders.specs.Maps.{Map, mapOf}
-use Rattle.holders.specs.Search.{Field}
-use Rattle.holders.specs.Asked.{Ready}
+use Rattle.holders.specs.Search.{Slanted, Field}
+use Rattle.holders.specs.Asked.{Ready, Boxable}
 use Rattle.candidates.specs.Order.{InOrder}
 use Rattle.candidates.proofs.Ordering.{row-in-order}
-use Rattle.holders.proofs.Asking.{ready-listable, ready-field, ready-orderable}
+use Rattle.holders.proofs.Asking.{ready-boxable, ready-field, ready-orderable}
 use borrow.Author.Needs.{needs}
 use Rattle.holders.proofs.holes_of_map.Statement.{statement}
 use Rattle.holders.proofs.holes_of_map.Tie as tie
 
 -- the start, from where the candidates are listed
-abbrev start : tie.After-list-enclosed → tie.Start
-start c = c .before .before .before .before .before .before .before .before .before .before .before
+abbrev start : tie.After-list-slanted → tie.Start
+start c = c .before .before .before .before .before .before .before .before .before .before .before .before
 
 -- the map of the lists and tables
 abbrev here : tie.Start → Map
 here s = let a = s .args in mapOf (a .dir-edges-src .now) (a .xs .now) (a .ys .now) (a .half-edges .now) (a .nodes .now) (a .ring-first .now) (a .ring-length .now) (a .ring-face .now)
 
+-- what was asked of it, by some rings
+abbrev ReadyAt : tie.Start → List Ring → Type 0
+ReadyAt s rs = Ready rs (s .args .node-count) (here s) (s .args .ring-side .now) (s .args .ring-area .now) (s .args .ring-count)
+
+-- zeros, over which they are written
+abbrev noRings : List ℕ
+noRings = replicate (limits .edges) 0
+
+abbrev noNumbers : List ℤ
+noNumbers = replicate (numbersOf * limits .edges) (pos 0)
+
 -- the candidates
-abbrev rings : tie.After-list-enclosed → List ℕ
-rings c = c .list-enclosed .last .1 .1 .1 .1 .1 .1 .1 .1 .0
+abbrev rings : tie.After-list-slanted → List ℕ
+rings c = c .list-slanted .last .1 .1 .1 .1 .1 .1 .1 .1 .1 .1 .0
 
-abbrev numbers : tie.After-list-enclosed → List ℤ
-numbers c = c .list-enclosed .last .1 .1 .1 .1 .1 .1 .1 .1 .1 .0
+abbrev numbers : tie.After-list-slanted → List ℤ
+numbers c = c .list-slanted .last .1 .1 .1 .1 .1 .1 .1 .1 .1 .1 .1 .0
 
--- they are the enclosed rings
-listed : (c : tie.After-list-enclosed) (rs : List Ring) (bound : ℕ) → let s = start c in let m = here s in Ready rs bound m (s .args .ring-side .now) (s .args .ring-area .now) (s .args .ring-count)
-    → Candidates rs (m .nodes) (m .xs) (m .ys) (m .first) (m .size) (s .args .ring-count) (rings c) (numbers c) (c .list-enclosed .result)
-listed c rs bound ready =
+-- they are the enclosed rings, boxed in some view
+listed : (c : tie.After-list-slanted) (rs : List Ring) → let s = start c in let m = here s in ReadyAt s rs
+    → (along : List ℤ) × Slanted (s .args .slope) (m .xs) (m .ys) (s .args .node-count) along
+    × Candidates rs (m .nodes) along (m .ys) (m .first) (m .size) (s .args .ring-count) (rings c) (numbers c) (c .list-slanted .result)
+listed c rs ready =
     let s = start c in
-    c .list-enclosed .ensures rs (ready-listable rs bound (here s) (s .args .ring-side .now) (s .args .ring-area .now) (s .args .ring-count) ready _ _ (omega arith) (omega arith))
+    let m = here s in
+    let w = c .before .before .before .wide in
+    let b = ready-boxable rs (s .args .node-count) m (s .args .ring-side .now) (s .args .ring-area .now) (s .args .ring-count) ready noRings noNumbers (omega arith) (omega arith) in
+    let l = c .list-slanted .ensures rs (subst (λ n. Boxable rs n (m .nodes) (m .xs) (m .ys) (m .first) (m .size) (s .args .ring-side .now) (s .args .ring-area .now) (s .args .ring-count) noRings noNumbers) (sym (w .ensures)) b) in
+    (l .0, λ n h. l .1 n (omega (arith, h, w .ensures)), l .2)
 
 -- so the map can be searched
-searched : (c : tie.After-list-enclosed) (rs : List Ring) (bound : ℕ) → let s = start c in Ready rs bound (here s) (s .args .ring-side .now) (s .args .ring-area .now) (s .args .ring-count)
-    → Field rs (here s) bound (rings c) (numbers c) (c .list-enclosed .result)
-searched c rs bound ready =
+searched : (c : tie.After-list-slanted) (rs : List Ring) → let s = start c in ReadyAt s rs
+    → Field rs (here s) (s .args .node-count) (s .args .slope) (rings c) (numbers c) (c .list-slanted .result)
+searched c rs ready =
     let s = start c in
-    ready-field rs bound (here s) (s .args .ring-side .now) (s .args .ring-area .now) (s .args .ring-count) ready (rings c) (numbers c) (c .list-enclosed .result) (listed c rs bound ready)
+    let l = listed c rs ready in
+    ready-field rs (s .args .node-count) (here s) (s .args .ring-side .now) (s .args .ring-area .now) (s .args .ring-count) ready (s .args .slope) (rings c) (numbers c) (c .list-slanted .result) (l .0) (l .1) (l .2)
 
-slice-aggregate-list-enclosed : tie.Need-slice-aggregate-list-enclosed
-slice-aggregate-list-enclosed c = search needs
+wide-requires : tie.Need-wide-requires
+wide-requires c κs = tt
 
-slice-aggregate-list-enclosed-2 : tie.Need-slice-aggregate-list-enclosed-2
-slice-aggregate-list-enclosed-2 c = search needs
+slice-aggregate-list-slanted : tie.Need-slice-aggregate-list-slanted
+slice-aggregate-list-slanted c = search needs
 
-list-enclosed-requires : tie.Need-list-enclosed-requires
-list-enclosed-requires c κs =
-    let s = c .before .before .before .before .before .before .before .before .before .before in
-    (s .pre .0, ready-listable (s .pre .0) (s .pre .1) (here s) (s .args .ring-side .now) (s .args .ring-area .now) (s .args .ring-count) (s .pre .2) _ _ (omega arith) (omega arith))
+slice-aggregate-list-slanted-2 : tie.Need-slice-aggregate-list-slanted-2
+slice-aggregate-list-slanted-2 c = search needs
+
+list-slanted-requires : tie.Need-list-slanted-requires
+list-slanted-requires c κs =
+    let w = c .before .before in
+    let s = w .before .before .before .before .before .before .before .before .before in
+    let m = here s in (
+      s .pre .0,
+      subst (λ n. Boxable (s .pre .0) n (m .nodes) (m .xs) (m .ys) (m .first) (m .size) (s .args .ring-side .now) (s .args .ring-area .now) (s .args .ring-count) _ _) (sym (w .wide .ensures))
+          (ready-boxable (s .pre .0) (s .args .node-count) m (s .args .ring-side .now) (s .args .ring-area .now) (s .args .ring-count) (s .pre .1) _ _ (omega arith) (omega arith)),
+    )
 
 slice-aggregate-order-by-start : tie.Need-slice-aggregate-order-by-start
 slice-aggregate-order-by-start c = search needs
@@ -66,22 +93,23 @@ order-by-start-requires : tie.Need-order-by-start-requires
 order-by-start-requires c κs =
     let e = c .before .before .before .before in
     let s = start e in
-    ready-orderable (s .pre .0) (s .pre .1) (here s) (s .args .ring-side .now) (s .args .ring-area .now) (s .args .ring-count) (s .pre .2) (rings e) (numbers e) (e .list-enclosed .result) (listed e (s .pre .0) (s .pre .1) (s .pre .2))
+    let l = listed e (s .pre .0) (s .pre .1) in
+    ready-orderable (s .pre .0) (s .args .node-count) (here s) (s .args .ring-side .now) (s .args .ring-area .now) (s .args .ring-count) (s .pre .1) (s .args .slope) (rings e) (numbers e) (e .list-slanted .result) (l .0) (l .1) (l .2)
     _ (omega arith)
 
 -- there are no more candidates than edges
-few : (c : tie.After-list-enclosed) → c .list-enclosed .result ≤ limits .edges
-few c = let s = start c in omega (arith, listed c (s .pre .0) (s .pre .1) (s .pre .2) .many, s .pre .2 .fewEnclosed)
+few : (c : tie.After-list-slanted) → c .list-slanted .result ≤ limits .edges
+few c = let s = start c in omega (arith, listed c (s .pre .0) (s .pre .1) .2 .many, s .pre .1 .fewEnclosed)
 
 -- their order
 abbrev order : tie.After-order-by-start → List ℕ
 order c = c .order-by-start .last .1 .1 .0
 
-ordered : (c : tie.After-order-by-start) → let e = c .before .before .before .before .before in InOrder (numbers e) (e .list-enclosed .result) (order c)
+ordered : (c : tie.After-order-by-start) → let e = c .before .before .before .before .before in InOrder (numbers e) (e .list-slanted .result) (order c)
 ordered c =
     let e = c .before .before .before .before .before in
     let s = start e in
-    row-in-order (numbers e) (e .list-enclosed .result) (order c) _ (listed e (s .pre .0) (s .pre .1) (s .pre .2) .inNumbers) (omega (arith, few e, c .order-by-start .kept .1 .1 .0)) (c .order-by-start .ensures)
+    row-in-order (numbers e) (e .list-slanted .result) (order c) _ (listed e (s .pre .0) (s .pre .1) .2 .inNumbers) (omega (arith, few e, c .order-by-start .kept .1 .1 .0)) (c .order-by-start .ensures)
 
 slice-aggregate-write-passing : tie.Need-slice-aggregate-write-passing
 slice-aggregate-write-passing c = search needs
@@ -121,21 +149,22 @@ list-holes-requires c κs =
     let d = c .before .before .before .before .before .before .before .before .before .before .before .before .before in
     let e = d .before .before .before .before .before in
     let s = start e in
-    let r = s .pre .2 in
-    ((s .pre .0, s .pre .1, searched e (s .pre .0) (s .pre .1) r, r .opens, r .fewNodes), (ordered d, c .before .before .before .before .before .before .before .write-passing .ensures))
+    let r = s .pre .1 in
+    ((s .pre .0, s .args .node-count, searched e (s .pre .0) r, r .opens, r .fewNodes), (ordered d, c .before .before .before .before .before .before .before .write-passing .ensures))
 
 returns : tie.Need-returns
 returns c =
     let e = c .before .before .before .before .before .before .before .before .before .before .before .before .before .before .before .before .before .before .before in
-    (λ rs bound ready. c .list-holes .ensures .0 rs bound (searched e rs bound ready) (ready .opens) (ready .fewNodes), c .list-holes .ensures .1)
+    (λ rs ready. c .list-holes .ensures .0 rs (start e .args .node-count) (searched e rs ready) (ready .opens) (ready .fewNodes), c .list-holes .ensures .1)
 
 pub holes-of-map-spec : {M : Type 1} → statement M
 holes-of-map-spec =
     tie.close
     (tie.spec
-    slice-aggregate-list-enclosed
-    slice-aggregate-list-enclosed-2
-    list-enclosed-requires
+    wide-requires
+    slice-aggregate-list-slanted
+    slice-aggregate-list-slanted-2
+    list-slanted-requires
     slice-aggregate-order-by-start
     slice-aggregate-order-by-start-2
     order-by-start-requires

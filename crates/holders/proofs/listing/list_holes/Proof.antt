@@ -19,11 +19,11 @@ use Rattle.holders.proofs.listing.list_holes.Statement.{statement}
 use Rattle.holders.proofs.listing.list_holes.Tie as tie
 
 abbrev Inv-loop : tie.InvT-loop
-Inv-loop ring-count ring-side ring-area count rings numbers order least reaches half-edges nodes ring-first ring-length ring-face dir-edges-src xs ys list₀ stamps₀ k₀ i₀ list stamps k i =
-    Gone (mapOf dir-edges-src xs ys half-edges nodes ring-first ring-length ring-face) rings numbers count ring-side ring-area ring-count i list stamps k
+Inv-loop ring-count ring-side ring-area slope count rings numbers order least reaches half-edges nodes ring-first ring-length ring-face dir-edges-src xs ys list₀ stamps₀ k₀ i₀ list stamps k i =
+    Gone (mapOf dir-edges-src xs ys half-edges nodes ring-first ring-length ring-face) slope rings numbers count ring-side ring-area ring-count i list stamps k
 
 abbrev μ-loop : tie.MeasureT-loop
-μ-loop ring-count ring-side ring-area count rings numbers order least reaches half-edges nodes ring-first ring-length ring-face dir-edges-src xs ys list₀ stamps₀ k₀ i₀ list stamps k i =
+μ-loop ring-count ring-side ring-area slope count rings numbers order least reaches half-edges nodes ring-first ring-length ring-face dir-edges-src xs ys list₀ stamps₀ k₀ i₀ list stamps k i =
     ring-count - i
 
 -- the function's start, from the loop
@@ -116,7 +116,7 @@ loop-again c =
     let q = here k .loop in
     ⊎-elim
     (λ w.
-    let after = w .2 .last .1 .1 .1 .1 .1 .1 .1 .1 .1 .1 .1 .1 .1 .1 .1 .0 in
+    let after = w .2 .last .1 .1 .1 .1 .1 .1 .1 .1 .1 .1 .1 .1 .1 .1 .1 .1 .0 in
     let same : length after ≡ length (q .stamps) = omega arith in
     let doubled = toZ w64 (ofZ w64 (w .5 .result)) in
     let exact : doubled ≡ w .5 .result = toZ-ofZ w64 (w .5 .result) (record { sfits = w .5 .ok }) in

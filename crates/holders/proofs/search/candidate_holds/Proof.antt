@@ -1,15 +1,15 @@
--- `candidate_holds` meets its contract: the parts of the lists are the candidate's half-edges and nodes.
+-- `candidate_holds` meets its contract: the part of the list is the candidate's nodes.
 use Prim.Native.Nat.{ℕ, _+_, _-_, _<_, _≤_}
 use native.Mathlib.Omega.{arith}
 use mathlib.Core.Path.{_≡_, sym, ap, ap₂, subst, _∙_}
 use mathlib.Core.List.{List}
-use lib.ListN.{length, getD, take, drop}
+use lib.ListN.{length, getD, take, drop, length-drop}
+use lib.Seq.{length-take-le}
 use Rattle.lists.specs.Lists.{In}
 use Rattle.rules.specs.Holes.{outside, ringAt}
-use Rattle.inside.specs.Spots.{spotIn, RingWithin}
-use Rattle.corners.specs.Nodes.{NodesWithin, Stamped}
-use Rattle.holders.specs.Maps.{origins, Map, mapOf, partOf, Laid}
-use Rattle.holders.specs.Holding.{holdsBy}
+use Rattle.inside.specs.Spots.{spotIn, NodesWithin}
+use Rattle.holders.specs.Maps.{Map, mapOf, partOf, Laid}
+use Rattle.holders.specs.Holding.{holdsBy, Restamped}
 use Rattle.holders.proofs.HoldingLaws.{candidate-ring, candidate-laid, holds-at, nodes-within, stamp-fresh, stamps-kept}
 use borrow.Author.Needs.{needs}
 use Rattle.holders.proofs.search.candidate_holds.Statement.{statement}
@@ -25,13 +25,13 @@ ring s = getD (s .args .rings .now) (s .args .j) 0
 
 -- what stands for it
 laid : (s : tie.Start) → Laid (s .pre .0) (here s) (s .pre .1) (ring s)
-laid s = candidate-laid (s .pre .0) (here s) (s .pre .1) (s .args .rings .now) (s .args .numbers .now) (s .args .count) (s .pre .2) (s .args .j) (s .pre .5)
+laid s = candidate-laid (s .pre .0) (here s) (s .pre .1) (s .pre .2) (s .args .rings .now) (s .args .numbers .now) (s .args .count) (s .pre .3) (s .args .j) (s .pre .7)
 
 -- it has an entry in each list
 low : (s : tie.Start) → (ring s < length (s .args .ring-first .now)) × (ring s < length (s .args .ring-length .now)) × (ring s < outside)
 low s =
-    let f = s .pre .2 in
-    let h = candidate-ring (s .pre .0) (here s) (s .pre .1) (s .args .rings .now) (s .args .numbers .now) (s .args .count) f (s .args .j) (s .pre .5) .0 in
+    let f = s .pre .3 in
+    let h = candidate-ring (s .pre .0) (here s) (s .pre .1) (s .pre .2) (s .args .rings .now) (s .args .numbers .now) (s .args .count) f (s .args .j) (s .pre .7) .0 in
     (omega (arith, h, f .map .inFirst), omega (arith, h, f .map .inSize), omega (arith, h, f .map .few))
 
 -- the start, from where the part is cut out
@@ -54,10 +54,10 @@ part-is c l =
     ap (λ k. take k (drop f l)) size ∙ ap₂ (λ k g. take k (drop g l)) (size-is c) (first-is c)
 
 mul-ring : tie.Need-mul-ring
-mul-ring c = omega (arith, c .before .before .before .before .before .before .before .before .before .pre .5, c .before .before .before .before .before .before .before .before .before .pre .2 .candidates .inRings)
+mul-ring c = omega (arith, c .before .before .before .before .before .before .before .before .before .pre .7, c .before .before .before .before .before .before .before .before .before .pre .3 .candidates .inRings)
 
 shared-slice-read-ring : tie.Need-shared-slice-read-ring
-shared-slice-read-ring c = omega (arith, c .before .before .before .before .before .before .before .before .before .before .pre .5, c .before .before .before .before .before .before .before .before .before .before .pre .2 .candidates .inRings)
+shared-slice-read-ring c = omega (arith, c .before .before .before .before .before .before .before .before .before .before .pre .7, c .before .before .before .before .before .before .before .before .before .before .pre .3 .candidates .inRings)
 
 wide-requires : tie.Need-wide-requires
 wide-requires c κs = tt
@@ -80,15 +80,15 @@ shared-slice-read-wide-2 c = omega (arith, low (c .before .before .before .befor
 wide-requires-3 : tie.Need-wide-requires-3
 wide-requires-3 c κs = tt
 
--- the part ends within both lists
-ends : (c : tie.After-wide3) → (c .before .before .wide2 .result + c .wide3 .result ≤ length (start c .args .half-edges .now)) × (c .before .before .wide2 .result + c .wide3 .result ≤ length (start c .args .nodes .now))
-ends c = let l = laid (start c) in (omega (arith, l .inHalves, first-is c, size-is c), omega (arith, l .inNodes, first-is c, size-is c))
+-- the part ends within the list
+ends : (c : tie.After-wide3) → c .before .before .wide2 .result + c .wide3 .result ≤ length (start c .args .nodes .now)
+ends c = omega (arith, laid (start c) .inNodes, first-is c, size-is c)
 
 add-end : tie.Need-add-end
-add-end c = omega (arith, ends c .0)
+add-end c = omega (arith, ends c)
 
 mul-ring-holds : tie.Need-mul-ring-holds
-mul-ring-holds c = omega (arith, ends c .0)
+mul-ring-holds c = omega (arith, ends c)
 
 sub-ring-holds : tie.Need-sub-ring-holds
 sub-ring-holds c = search needs
@@ -97,45 +97,36 @@ part-ring-holds-start : tie.Need-part-ring-holds-start
 part-ring-holds-start c = search needs
 
 part-ring-holds-end : tie.Need-part-ring-holds-end
-part-ring-holds-end c = ends c .0
-
-mul-ring-holds-2 : tie.Need-mul-ring-holds-2
-mul-ring-holds-2 c = omega (arith, ends (c .before) .1)
-
-sub-ring-holds-2 : tie.Need-sub-ring-holds-2
-sub-ring-holds-2 c = search needs
-
-part-ring-holds-start-2 : tie.Need-part-ring-holds-start-2
-part-ring-holds-start-2 c = search needs
-
-part-ring-holds-end-2 : tie.Need-part-ring-holds-end-2
-part-ring-holds-end-2 c = ends (c .before) .1
+part-ring-holds-end c = ends c
 
 add-ring-holds : tie.Need-add-ring-holds
-add-ring-holds c = omega (arith, low (start (c .before .before)) .2)
+add-ring-holds c = omega (arith, low (start (c .before)) .2)
 
 ring-holds-requires : tie.Need-ring-holds-requires
 ring-holds-requires c κs =
-    let w = c .before .before .before in
+    let w = c .before .before in
     let s = start w in
     let l = laid s in
     let rs = s .pre .0 in
     let bound = s .pre .1 in
     let source = s .args .dir-edges-src .now in
-    let f = s .pre .2 in
-    let stamps = s .pre .3 in
-    let halves = sym (part-is w (s .args .half-edges .now) ∙ l .halves) in
-    let own = sym (part-is w (s .args .nodes .now) ∙ l .nodes) in (
-      bound,
-      record {
-        lines = subst (λ r. RingWithin r source bound) halves (l .within);
-        spots = f .map .spotted;
-        outerNodes = subst (λ n. NodesWithin n bound) own (nodes-within (ringAt rs (ring s) .halfEdges) source bound (l .within));
-        innerNodes = s .pre .4;
-        room = stamps .room;
-        few = stamps .few;
-        fresh = λ n e. subst (λ k. In n k) own (stamp-fresh rs source bound (s .args .stamps .now) (s .args .stamps .now) stamps (ring s) n e);
-      },
+    let f = s .pre .3 in
+    let stamps = s .pre .4 in
+    let part = part-is w (s .args .nodes .now) in
+    let own = sym (part ∙ l .nodes) in (
+      (
+        bound,
+        record {
+          some = omega (arith, ap length part, length-take-le (getD (s .args .ring-length .now) (ring s) 0) (drop (getD (s .args .ring-first .now) (ring s) 0) (s .args .nodes .now)) (omega (arith, l .inNodes, length-drop (getD (s .args .ring-first .now) (ring s) 0) (s .args .nodes .now))), l .some);
+          spots = f .map .spotted;
+          outerNodes = subst (λ n. NodesWithin n bound) own (nodes-within (ringAt rs (ring s) .halfEdges) source bound (l .within));
+          innerNodes = s .pre .5;
+          room = stamps .room;
+          few = stamps .few;
+          fresh = λ n e. subst (λ k. In n k) own (stamp-fresh rs source bound (s .args .stamps .now) (s .args .stamps .now) stamps (ring s) n e);
+        },
+      ),
+      s .pre .6,
     )
 
 same-length : tie.Need-same-length
@@ -143,20 +134,20 @@ same-length c = c .before .before .ring-holds .ensures .1 .size
 
 returns : tie.Need-returns
 returns c =
-    let w = c .before .before .before .before .before .before in
+    let w = c .before .before .before .before .before in
     let s = start w in
     let done = c .before .before .ring-holds in
-    let at = spotIn (s .args .xs .now) (s .args .ys .now) in
-    let g = origins (s .args .dir-edges-src .now) in (
-      λ rs bound o x y field opening.
+    let at = spotIn (s .args .xs .now) (s .args .ys .now) in (
+      λ rs bound slope o x y field opening.
           done .ensures .0
-          ∙ (λ i. holdsBy at g (part-is w (s .args .half-edges .now) i) (part-is w (s .args .nodes .now) i) (s .args .inner .now))
-          ∙ holds-at rs (here s) bound (s .args .rings .now) (s .args .numbers .now) (s .args .count) field o (s .args .inner .now) x y opening (s .args .j) (s .pre .5),
-      λ rs bound field stamps.
-          let l = candidate-laid rs (here s) bound (s .args .rings .now) (s .args .numbers .now) (s .args .count) field (s .args .j) (s .pre .5) in
+          ∙ ap (λ k. holdsBy at k (s .args .inner .now)) (part-is w (s .args .nodes .now))
+          ∙ holds-at rs (here s) bound slope (s .args .rings .now) (s .args .numbers .now) (s .args .count) field o (s .args .inner .now) (s .args .corner .0) x y opening (s .args .j) (s .pre .7),
+      λ rs bound slope field stamps.
+          let l = candidate-laid rs (here s) bound slope (s .args .rings .now) (s .args .numbers .now) (s .args .count) field (s .args .j) (s .pre .7) in
           let own = part-is w (s .args .nodes .now) ∙ l .nodes in
-          stamps-kept rs (s .args .dir-edges-src .now) bound (s .args .stamps .now) (done .last .1 .1 .1 .1 .1 .1 .1 .0) stamps (ring s)
-          (subst (λ n. Stamped n (ring s + 1) (s .args .stamps .now) (done .last .1 .1 .1 .1 .1 .1 .1 .0)) own (done .ensures .1)),
+          let after = done .last .1 .1 .1 .1 .1 .1 .0 in
+          stamps-kept rs (s .args .dir-edges-src .now) bound (s .args .stamps .now) after stamps (ring s)
+          (subst (λ n. Restamped n (ring s + 1) (s .args .stamps .now) after) own (done .ensures .1)),
     )
 
 pub candidate-holds-spec : {M : Type 1} → statement M
@@ -177,10 +168,6 @@ candidate-holds-spec =
     sub-ring-holds
     part-ring-holds-start
     part-ring-holds-end
-    mul-ring-holds-2
-    sub-ring-holds-2
-    part-ring-holds-start-2
-    part-ring-holds-end-2
     add-ring-holds
     ring-holds-requires
     same-length

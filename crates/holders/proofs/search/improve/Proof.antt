@@ -25,13 +25,13 @@ map s = let a = s .args in
 -- it is a candidate
 low : (c : tie.After-wide) → c .wide .result < start c .args .count
 low c = let s = start c in let a = s .args in
-    subst (λ j. j < a .count) (sym (c .wide .ensures)) (order-low (a .numbers .now) (a .count) (a .order .now) (s .pre .1) (a .place) (s .pre .0 .6))
+    subst (λ j. j < a .count) (sym (c .wide .ensures)) (order-low (a .numbers .now) (a .count) (a .order .now) (s .pre .1) (a .place) (s .pre .0 .7))
 
 mul-wide : tie.Need-mul-wide
-mul-wide c = let s = c .before .before .before .before .before .before .before .before .before .before in omega (arith, s .pre .0 .6, s .pre .1 .inOrder)
+mul-wide c = let s = c .before .before .before .before .before .before .before .before .before .before in omega (arith, s .pre .0 .7, s .pre .1 .inOrder)
 
 shared-slice-read-wide : tie.Need-shared-slice-read-wide
-shared-slice-read-wide c = let s = c .before .before .before .before .before .before .before .before .before .before .before in omega (arith, s .pre .0 .6, s .pre .1 .inOrder)
+shared-slice-read-wide c = let s = c .before .before .before .before .before .before .before .before .before .before .before in omega (arith, s .pre .0 .7, s .pre .1 .inOrder)
 
 wide-requires : tie.Need-wide-requires
 wide-requires c κs = tt
@@ -39,14 +39,14 @@ wide-requires c κs = tt
 comes-first-requires : tie.Need-comes-first-requires
 comes-first-requires c κs = let s = start c in let a = s .args in let p = s .pre .0 in (
   low c,
-  p .7,
-  p .3 .candidates .inRings,
-  p .3 .candidates .inNumbers,
-  λ i h. omega (arith, candidate-ring (p .0) _ (p .1) (a .rings .now) (a .numbers .now) (a .count) (p .3) i h .0, p .3 .map .inFace),
+  p .8,
+  p .4 .candidates .inRings,
+  p .4 .candidates .inNumbers,
+  λ i h. omega (arith, candidate-ring (p .0) _ (p .1) (p .2) (a .rings .now) (a .numbers .now) (a .count) (p .4) i h .0, p .4 .map .inFace),
 )
 
 in-box-requires : tie.Need-in-box-requires
-in-box-requires c κs = let w = c .before .before in omega (arith, low w, start w .pre .0 .3 .candidates .inNumbers)
+in-box-requires c κs = let w = c .before .before in omega (arith, low w, start w .pre .0 .4 .candidates .inNumbers)
 
 -- the corner is the one that was asked for
 asked : (c : tie.After-in-box) → let w = c .before .before .before in let a = start w .args in inBox (a .numbers .now) (w .wide .result) (a .x) (a .y) ≡ c .in-box .result
@@ -54,7 +54,7 @@ asked c = let w = c .before .before .before in let s = start w in let a = s .arg
     sym (c .in-box .ensures ∙ (λ t. inBox (a .numbers .now) (w .wide .result) (toZ-ofZ w64 (a .x) (s .fits .x) t) (toZ-ofZ w64 (a .y) (s .fits .y) t)))
 
 candidate-holds-requires : tie.Need-candidate-holds-requires
-candidate-holds-requires c κs = let w = c .before .before .before .before .before in let p = start w .pre .0 in (p .0, p .1, p .3, p .5, p .4 .within, low w)
+candidate-holds-requires c κs = let w = c .before .before .before .before .before in let p = start w .pre .0 in (p .0, p .1, p .2, p .4, p .6, p .5 .within, p .5 .leftmost, low w)
 
 same-length : tie.Need-same-length
 same-length c = search needs
@@ -65,9 +65,9 @@ returns c =
     let w = f .before in
     let a = start w .args in
     let h = c .before .before .before .candidate-holds in (
-      λ rs bound o field opening old.
-          take-better rs _ bound (a .rings .now) (a .numbers .now) (a .count) field (a .order .now) o (a .place) (a .best) (w .wide .result) (sym (w .wide .ensures)) (low w) old
-          (sym (h .ensures .0 rs bound o (a .x) (a .y) field opening) ∙ c .if3 .taken) (sym (f .comes-first .ensures) ∙ c .before .before .before .before .before .before .before .if1 .taken),
+      λ rs bound slope o field opening old.
+          take-better rs _ bound slope (a .rings .now) (a .numbers .now) (a .count) field (a .order .now) o (a .place) (a .best) (w .wide .result) (sym (w .wide .ensures)) (low w) old
+          (sym (h .ensures .0 rs bound slope o (a .x) (a .y) field opening) ∙ c .if3 .taken) (sym (f .comes-first .ensures) ∙ c .before .before .before .before .before .before .before .if1 .taken),
       h .ensures .1,
     )
 
@@ -79,9 +79,9 @@ returns-2 c =
     let w = c .before .before .before .before .before .before .before .before .before in
     let a = start w .args in
     let h = c .before .before .before .candidate-holds in (
-      λ rs bound o field opening old.
-          leave rs _ bound (a .rings .now) (a .numbers .now) (a .count) field (a .order .now) o (a .place) (a .best) (w .wide .result) (sym (w .wide .ensures)) (low w) old
-          (behind-open rs (map (start w)) o (a .rings .now) (a .count) (a .best) (w .wide .result) (sym (h .ensures .0 rs bound o (a .x) (a .y) field opening) ∙ c .if3 .left)),
+      λ rs bound slope o field opening old.
+          leave rs _ bound slope (a .rings .now) (a .numbers .now) (a .count) field (a .order .now) o (a .place) (a .best) (w .wide .result) (sym (w .wide .ensures)) (low w) old
+          (behind-open rs (map (start w)) o (a .rings .now) (a .count) (a .best) (w .wide .result) (sym (h .ensures .0 rs bound slope o (a .x) (a .y) field opening) ∙ c .if3 .left)),
       h .ensures .1,
     )
 
@@ -89,11 +89,11 @@ returns-3 : tie.Need-returns-3
 returns-3 c =
     let w = c .before .before .before .before in
     let a = start w .args in (
-      λ rs bound o field opening old.
-          leave rs _ bound (a .rings .now) (a .numbers .now) (a .count) field (a .order .now) o (a .place) (a .best) (w .wide .result) (sym (w .wide .ensures)) (low w) old
+      λ rs bound slope o field opening old.
+          leave rs _ bound slope (a .rings .now) (a .numbers .now) (a .count) field (a .order .now) o (a .place) (a .best) (w .wide .result) (sym (w .wide .ensures)) (low w) old
           (behind-open rs (map (start w)) o (a .rings .now) (a .count) (a .best) (w .wide .result)
-          (beside rs _ bound (a .rings .now) (a .numbers .now) (a .count) field o (a .inner .now) (a .x) (a .y) opening (w .wide .result) (low w) (asked (c .before) ∙ c .if2 .left))),
-      λ rs bound field stamps. stamps,
+          (beside rs _ bound slope (a .rings .now) (a .numbers .now) (a .count) field o (a .inner .now) (a .corner .0) (a .x) (a .y) opening (w .wide .result) (low w) (asked (c .before) ∙ c .if2 .left))),
+      λ rs bound slope field stamps. stamps,
     )
 
 returns-4 : tie.Need-returns-4
@@ -101,10 +101,10 @@ returns-4 c =
     let w = c .before .before in
     let s = start w in
     let a = s .args in (
-      λ rs bound o field opening old.
-          leave rs _ bound (a .rings .now) (a .numbers .now) (a .count) field (a .order .now) o (a .place) (a .best) (w .wide .result) (sym (w .wide .ensures)) (low w) old
-          (behind-late rs _ bound (a .rings .now) (a .numbers .now) (a .count) field o (a .best) (w .wide .result) (low w) (s .pre .0 .7) (sym (c .before .comes-first .ensures) ∙ c .if1 .left)),
-      λ rs bound field stamps. stamps,
+      λ rs bound slope o field opening old.
+          leave rs _ bound slope (a .rings .now) (a .numbers .now) (a .count) field (a .order .now) o (a .place) (a .best) (w .wide .result) (sym (w .wide .ensures)) (low w) old
+          (behind-late rs _ bound slope (a .rings .now) (a .numbers .now) (a .count) field o (a .best) (w .wide .result) (low w) (s .pre .0 .8) (sym (c .before .comes-first .ensures) ∙ c .if1 .left)),
+      λ rs bound slope field stamps. stamps,
     )
 
 pub improve-spec : {M : Type 1} → statement M
