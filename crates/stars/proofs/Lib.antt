@@ -8,6 +8,7 @@ pub mod Grouping
 pub mod Groups
 -- the insertion sort of one star, and of the stars in a row
 pub mod Insertion
+pub mod Turning
 pub mod Points
 pub mod Angular
 pub mod Parts
