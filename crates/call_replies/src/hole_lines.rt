@@ -4,7 +4,7 @@ use crate::printing::say_labelled;
 use crate::printing::say_signed;
 use crate::reads::number;
 use holes::Hole;
-use tables::MAX_EDGES;
+use tables::MAX_SHAPED;
 
 fn say_hole(hole: Hole) {
     say_labelled(b"hole ", number(hole.ring));
@@ -15,9 +15,9 @@ fn say_hole(hole: Hole) {
 }
 
 // A line for each of the first `count` records.
-pub fn say_holes(list: [Hole; MAX_EDGES], count: usize) {
+pub fn say_holes(list: [Hole; MAX_SHAPED], count: usize) {
     let mut i = 0;
-    while i < MAX_EDGES {
+    while i < MAX_SHAPED {
         if count <= i {
             return;
         }

@@ -15,12 +15,12 @@ use call_replies::Reply;
 use hole_entry::Ringed;
 use hole_entry::RingsReply;
 use holes::Hole;
-use tables::MAX_EDGES;
+use tables::MAX_SHAPED;
 
 // What the call did, and the holes that the entry would write.
 pub struct Extraction {
     pub outcome: Outcome,
-    pub list: [Hole; MAX_EDGES],
+    pub list: [Hole; MAX_SHAPED],
     pub count: usize,
 }
 

@@ -6,7 +6,7 @@ ghost use lib.Seq.{sets};
 ghost use Rattle.corners.specs.Boxes.{SidesWithin};
 ghost use Rattle.candidates.specs.Candidates.{numbersOf, numberAt, numbersBy, inBox};
 use corners::Sides;
-use tables::MAX_EDGES;
+use tables::MAX_SHAPED;
 use tables::wide;
 
 // The places of a candidate's numbers: least x, greatest x, least y, greatest y, doubled area.
@@ -23,8 +23,8 @@ pub const AREA: usize = 4;
 // How many they are.
 pub const NUMBERS: usize = 5;
 
-// Two half-edges or more make a ring with an area, so there are never more candidates than edges.
-pub const CANDIDATE_NUMBERS: usize = NUMBERS * MAX_EDGES;
+// A candidate is a ring with an area.
+pub const CANDIDATE_NUMBERS: usize = NUMBERS * MAX_SHAPED;
 
 // Writes the numbers of candidate j.
 pub fn put_numbers(

@@ -3,9 +3,10 @@ use Prim.Native.Nat.{ℕ, _+_, _*_, _≤_}
 use mathlib.Core.Path.{_≡_}
 use mathlib.Core.List.{List}
 use lib.Ieee.{Float}
-use lib.ListN.{length, take, drop}
-use Rattle.rules.specs.Cycles.{Arrangement}
-use Rattle.rules.specs.Split.{minimalRings}
+use lib.ListN.{length, getD, take, drop}
+use Rattle.rules.specs.Cycles.{Arrangement, halves, maximalRings}
+use Rattle.rules.specs.Split.{splitSuccessor, minimalRings}
+use Rattle.rules.specs.Sane.{Live}
 use Rattle.rules.specs.Euler.{census}
 use Rattle.cycles.specs.Census.{censusOf}
 use Rattle.lists.specs.Lists.{flatten}
@@ -20,6 +21,11 @@ keysXOf halfEdges keys = take (length halfEdges) keys
 -- and those of y
 abbrev pub keysYOf : List ℕ → List ℕ → List ℕ
 keysYOf halfEdges keys = take (length halfEdges) (drop keysY keys)
+
+-- a table has the successors along the rings of an arrangement, whose maximal rings are counted
+pub record Successors (g : Arrangement) (next : List ℕ) (maximal : ℕ) : Type 0 where
+  pub split : (h : ℕ) → Live (halves g) (g .active) h → getD next h 0 ≡ splitSuccessor g h
+  pub number : maximal ≡ length (maximalRings g)
 
 -- the five lists have an entry for each half-edge, and the keys two
 pub record RingRoom (edges : ℕ) (halfEdges keys : List ℕ) (rows : RingRows) : Type 0 where

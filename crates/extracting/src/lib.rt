@@ -2,9 +2,12 @@
 // their face numbers are written. Carried over from planar_graph.rs.
 mod listing;
 mod naming;
+mod sides;
+mod successors;
 
 pub use listing::RingCount;
 pub use listing::list_rings;
+pub use sides::list_sides;
 ghost use Rattle.rules.specs.Limits.{limits};
 ghost use Rattle.extracting.specs.Extraction.{listsOf, Extractable, Extracts};
 use naming::name_rings;

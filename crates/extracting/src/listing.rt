@@ -6,6 +6,7 @@ ghost use Rattle.stars.specs.Groups.{InEach};
 ghost use Rattle.pieces.specs.Seeds.{Placed};
 ghost use Rattle.rings.specs.Listing.{rowsOf};
 ghost use Rattle.extracting.specs.Listing.{RingRoom, RingsListed};
+use crate::successors::write_successors;
 use tables::MAX_HALF_EDGES;
 use tables::PlanarGraph;
 
@@ -15,7 +16,7 @@ pub struct RingCount {
     pub census: cycles::Census,
 }
 
-// Links, labels and counts the maximal rings, splits them, and lists the rings.
+// Counts the maximal rings, splits them, and lists the rings.
 pub fn list_rings(
     graph: PlanarGraph,
     nodes_x: &[f64],
@@ -36,9 +37,7 @@ pub fn list_rings(
         (now («half_edges» .exit)) (now (keys .exit)) (rowsOf (now («ring_first» .exit)) (now («ring_length» .exit)) (now («ring_side» .exit)) (now («ring_area» .exit))) r) ⌝ }
 {
     let mut next = [0u16; MAX_HALF_EDGES];
-    let mut labels = [0u16; MAX_HALF_EDGES];
-    cycles::link_successors(graph, offsets, grouped, dir_edges_marked, &mut next);
-    let maximal = cycles::label_rings(graph.edge_count, &next, dir_edges_marked, &mut labels);
+    let maximal = write_successors(graph, offsets, grouped, dir_edges_marked, &mut next);
     let census = cycles::count_census(
         graph,
         nodes_x,
@@ -48,14 +47,6 @@ pub fn list_rings(
         dir_edges_src,
         dir_edges_marked,
         maximal,
-    );
-    splitting::split_rings(
-        graph,
-        offsets,
-        grouped,
-        dir_edges_marked,
-        &labels,
-        &mut next,
     );
     let count = rings::walk_rings(
         graph.edge_count,

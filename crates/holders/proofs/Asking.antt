@@ -12,7 +12,7 @@ use lib.Signed.{ltZ}
 use borrow.Author.Tests.{lt-ltb, le-ltb}
 use Rattle.lists.specs.Lists.{below, over}
 use Rattle.geometry.specs.Coordinate.{coordinateBound, value}
-use Rattle.rules.specs.Limits.{limits}
+use Rattle.rules.specs.Limits.{limits, shapedRings}
 use Rattle.rules.specs.Face.{Ring}
 use Rattle.rules.specs.Ringing.{sideNumber, exactSide}
 use Rattle.rules.specs.Holes.{enclosed, isOpen, ringNodes, ringAt}
@@ -29,8 +29,8 @@ use Rattle.holders.proofs.HoldingLaws.{nodes-within}
 -- ---- of a map in whole numbers
 
 module _ (rs : List Ring) (bound : ℕ) (m : Map) (side : List ℕ) (area : List Float) (count : ℕ) (ready : Ready rs bound m side area count) where
-  -- its enclosed rings can be listed, where there is room for as many as edges
-  pub ready-listable : (rings : List ℕ) (numbers : List ℤ) → limits .edges ≤ length rings → numbersOf * limits .edges ≤ length numbers
+  -- its enclosed rings can be listed, where there is room for as many as rings with an area
+  pub ready-listable : (rings : List ℕ) (numbers : List ℤ) → shapedRings limits ≤ length rings → numbersOf * shapedRings limits ≤ length numbers
       → Listable rs (m .nodes) (m .xs) (m .ys) (m .first) (m .size) side area count rings numbers
   ready-listable rings numbers a b = record {
     counted = ready .counted;
@@ -44,7 +44,7 @@ module _ (rs : List Ring) (bound : ℕ) (m : Map) (side : List ℕ) (area : List
   }
 
   -- their boxes can be made in any view
-  pub ready-boxable : (rings : List ℕ) (numbers : List ℤ) → limits .edges ≤ length rings → numbersOf * limits .edges ≤ length numbers
+  pub ready-boxable : (rings : List ℕ) (numbers : List ℤ) → shapedRings limits ≤ length rings → numbersOf * shapedRings limits ≤ length numbers
       → Boxable rs bound (m .nodes) (m .xs) (m .ys) (m .first) (m .size) side area count rings numbers
   ready-boxable rings numbers a b = record {
     fewNodes = ready .fewNodes;
@@ -68,9 +68,9 @@ module _ (rs : List Ring) (bound : ℕ) (m : Map) (side : List ℕ) (area : List
     }
 
     -- and they can be ordered
-    pub ready-orderable : (order : List ℕ) → limits .edges ≤ length order → Orderable numbers n order
+    pub ready-orderable : (order : List ℕ) → shapedRings limits ≤ length order → Orderable numbers n order
     ready-orderable order room =
-        let few : n ≤ limits .edges = omega (arith, listed .many, ready .fewEnclosed) in
+        let few : n ≤ shapedRings limits = omega (arith, listed .many, ready .fewEnclosed) in
         record { few = omega arith; inNumbers = listed .inNumbers; room = omega arith }
 
 -- ---- boxes in another view
@@ -204,7 +204,7 @@ module _ (rs : List Ring) (n : ℕ) (X Y : List Float) (source halfEdges first s
     inArea = omega (arith, asked .counted, asked .shown .inArea);
     sided = λ i l. ap (λ s. eqb s 2) (asked .sided i (omega (arith, l, asked .counted))) ∙ side-open (ringAt rs i .doubled);
     halved = λ i l. asked .shown .each i (omega (arith, l, asked .counted)) .halved;
-    few = subst (λ k. length (below (λ i. isOpen (ringAt rs i)) k) ≤ limits .edges) (sym (asked .counted)) (asked .fewOpen);
+    few = subst (λ k. length (below (λ i. isOpen (ringAt rs i)) k) ≤ shapedRings limits) (sym (asked .counted)) (asked .fewOpen);
   }
 
   pub asked-ready : Ready rs n drawn side area count
@@ -215,6 +215,6 @@ module _ (rs : List Ring) (n : ℕ) (X Y : List Float) (source halfEdges first s
     inSide = omega (arith, asked .counted, asked .inSide);
     inArea = omega (arith, asked .counted, asked .shown .inArea);
     each = λ i l. listable i (omega (arith, l, asked .counted));
-    fewEnclosed = subst (λ k. length (below (λ i. enclosed (ringAt rs i)) k) ≤ limits .edges) (sym (asked .counted)) (asked .fewEnclosed);
+    fewEnclosed = subst (λ k. length (below (λ i. enclosed (ringAt rs i)) k) ≤ shapedRings limits) (sym (asked .counted)) (asked .fewEnclosed);
     opens = opens;
   }

@@ -12,7 +12,7 @@ use lib.Dec.{eqb}
 use lib.Ieee.{Float, nan}
 use Rattle.lists.specs.Lists.{below}
 use Rattle.lists.proofs.Counts.{below-yes, below-no, below-less, below-mono}
-use Rattle.rules.specs.Limits.{limits}
+use Rattle.rules.specs.Limits.{limits, shapedRings}
 use Rattle.rules.specs.Face.{Ring}
 use Rattle.rules.specs.Holes as rules
 use Rattle.rules.specs.Holes.{isOpen, ringAt, holderOf, holesOf}
@@ -65,8 +65,8 @@ listed-none small list = record {
 
 module _ {rs : List Ring} {m : Map} {bound : ℕ} {side : List ℕ} {area : List Float} {count i k : ℕ} {list : List Hole} {stamps : List ℕ}
     (given : OpenListed rs side area count) (old : Listed rs m bound i list stamps k) where
-  -- there are never more records than edges
-  pub listed-few : i ≤ count → k ≤ limits .edges
+  -- there are never more records than rings with an area
+  pub listed-few : i ≤ count → k ≤ shapedRings limits
   listed-few low = omega (arith, below-mono (chosen rs) i count low, old .many, given .few)
 
   -- once all rings are gone through, the records are the holes
@@ -82,11 +82,11 @@ module _ {rs : List Ring} {m : Map} {bound : ℕ} {side : List ℕ} {area : List
 
   module _ (low : i < count) (e : eqb (getD side i 0) 2 ≡ true) where
     -- for an open ring's record there is room
-    pub listed-room : k < limits .edges
+    pub listed-room : k < shapedRings limits
     listed-room = omega (arith, below-less (chosen rs) i count low (sym (given .sided i low) ∙ e), old .many, given .few)
 
     -- it comes last
-    listed-one : length list ≡ limits .edges → (h : Hole) → holeOf h ≡ holeAt m rs i → {after : List ℕ} → Stamps rs (m .source) bound after
+    listed-one : length list ≡ shapedRings limits → (h : Hole) → holeOf h ≡ holeAt m rs i → {after : List ℕ} → Stamps rs (m .source) bound after
         → Listed rs m bound (i + 1) (set list k h) after (k + 1)
     listed-one long h new marked =
         let more : below (chosen rs) (i + 1) ≡ below (chosen rs) i ++ (i ∷ []) = ap (below (chosen rs)) (add-one i) ∙ below-yes (chosen rs) i (sym (given .sided i low) ∙ e) in
@@ -107,13 +107,13 @@ module _ {rs : List Ring} {m : Map} {bound : ℕ} {side : List ℕ} {area : List
 -- the open ones of the first i rings are recorded, whatever rings these are
 pub record Gone (m : Map) (slope : ℕ) (rings : List ℕ) (numbers : List ℤ) (candidates : ℕ) (side : List ℕ) (area : List Float) (count i : ℕ) (list : List Hole) (stamps : List ℕ) (k : ℕ) : Type 0 where
   pub goes : i ≤ count
-  pub sameList : length list ≡ limits .edges
+  pub sameList : length list ≡ shapedRings limits
   pub sameStamps : length stamps ≡ limits .nodes
   pub listed : (rs : List Ring) (bound : ℕ) → Field rs m bound slope rings numbers candidates → OpenListed rs side area count → bound ≤ limits .nodes → Listed rs m bound i list stamps k
 
 module _ {m : Map} {slope : ℕ} {rings : List ℕ} {numbers : List ℤ} {candidates : ℕ} {side : List ℕ} {area : List Float} {count : ℕ} where
   -- before the first turn
-  pub gone-none : {list : List Hole} → length list ≡ limits .edges → Gone m slope rings numbers candidates side area count 0 list (replicate (limits .nodes) 0) 0
+  pub gone-none : {list : List Hole} → length list ≡ shapedRings limits → Gone m slope rings numbers candidates side area count 0 list (replicate (limits .nodes) 0) 0
   gone-none {list} e = record {
     goes = omega arith;
     sameList = e;

@@ -8,7 +8,7 @@ use lib.Ieee.{Float, nan}
 use lib.IntN.{ℤ}
 use Rattle.lists.specs.Lists.{below}
 use Rattle.geometry.specs.Coordinate.{coordinateBound, coordinate}
-use Rattle.rules.specs.Limits.{limits}
+use Rattle.rules.specs.Limits.{limits, shapedRings}
 use Rattle.rules.specs.Face.{Ring, faceNumber}
 use Rattle.rules.specs.Ringing.{sideNumber, exactSide}
 use Rattle.rules.specs.Claim.{Joined}
@@ -44,8 +44,8 @@ pub record Asked (rs : List Ring) (nodes : ℕ) (xs ys : List Float) (source hal
   pub inSide : length rs ≤ length side
   pub sided : (i : ℕ) → i < length rs → getD side i 0 ≡ sideNumber (exactSide (ringAt rs i .doubled))
   pub apart : (i j : ℕ) → i < length rs → j < length rs → faceNumber rs (ringAt rs i) ≡ faceNumber rs (ringAt rs j) → i ≡ j
-  pub fewEnclosed : length (below (λ i. enclosed (ringAt rs i)) (length rs)) ≤ limits .edges
-  pub fewOpen : length (below (λ i. isOpen (ringAt rs i)) (length rs)) ≤ limits .edges
+  pub fewEnclosed : length (below (λ i. enclosed (ringAt rs i)) (length rs)) ≤ shapedRings limits
+  pub fewOpen : length (below (λ i. isOpen (ringAt rs i)) (length rs)) ≤ shapedRings limits
 
 -- the same of a map with whole numbers: its rings stand in the lists with their sides and areas
 pub record Ready (rs : List Ring) (bound : ℕ) (m : Map) (side : List ℕ) (area : List Float) (count : ℕ) : Type 0 where
@@ -55,7 +55,7 @@ pub record Ready (rs : List Ring) (bound : ℕ) (m : Map) (side : List ℕ) (are
   pub inSide : count ≤ length side
   pub inArea : count ≤ length area
   pub each : (i : ℕ) → i < count → RingListable rs (m .nodes) (m .xs) (m .ys) (m .first) (m .size) side area i
-  pub fewEnclosed : length (below (λ i. enclosed (ringAt rs i)) count) ≤ limits .edges
+  pub fewEnclosed : length (below (λ i. enclosed (ringAt rs i)) count) ≤ shapedRings limits
   pub opens : OpenListed rs side area count
 
 -- what boxing the enclosed rings of it asks: nodes that lie at coordinates, and rings that can be listed

@@ -5,7 +5,7 @@ ghost use Prim.Native.Nat.{ℕ, _<_, _≤_};
 ghost use lib.IntN.{ℤ};
 ghost use lib.ListN.{length, getD, take};
 ghost use Rattle.lists.specs.Lists.{over};
-ghost use Rattle.rules.specs.Limits.{limits};
+ghost use Rattle.rules.specs.Limits.{limits, shapedRings};
 ghost use Rattle.rules.specs.State.{pointIn};
 ghost use Rattle.rules.specs.Face.{Ring};
 ghost use Rattle.rules.specs.Holes.{holesOf, ringNodes};
@@ -30,9 +30,9 @@ pub use listing::HoleList;
 use listing::list_holes;
 use slopes::choose_slope;
 use slopes::write_along;
-use tables::MAX_EDGES;
 use tables::MAX_HALF_EDGES;
 use tables::MAX_NODES;
+use tables::MAX_SHAPED;
 use tables::wide;
 
 // The node where each of the half-edges starts.
@@ -102,9 +102,9 @@ fn holes_of_map(
     requires { ⌜ ((rs : List Ring) × Ready rs «node_count» (mapOf (now «dir_edges_src») (now xs) (now ys) (now «half_edges») (now nodes) (now «ring_first») (now «ring_length») (now «ring_face»)) (now «ring_side») (now «ring_area») «ring_count») ⌝ }
     ensures holes { λ r. ⌜ ((rs : List Ring) → Ready rs «node_count» (mapOf (now («dir_edges_src» .entry)) (now (xs .entry)) (now (ys .entry)) (now («half_edges» .entry)) (now (nodes .entry)) (now («ring_first» .entry)) (now («ring_length» .entry)) (now («ring_face» .entry))) (now («ring_side» .entry)) (now («ring_area» .entry)) «ring_count»
         → map holeOf (take (r .count) (r .list)) ≡ holesOf (spotIn (now (xs .entry)) (now (ys .entry))) (origins (now («dir_edges_src» .entry))) rs) ⌝ }
-    ensures few { λ r. ⌜ (r .count ≤ limits .edges) × (length (r .list) ≡ limits .edges) ⌝ }
+    ensures few { λ r. ⌜ (r .count ≤ shapedRings limits) × (length (r .list) ≡ shapedRings limits) ⌝ }
 {
-    let mut rings = [0u16; MAX_EDGES];
+    let mut rings = [0u16; MAX_SHAPED];
     let mut numbers = [0i64; CANDIDATE_NUMBERS];
     let count = list_slanted(
         slope,
@@ -120,9 +120,9 @@ fn holes_of_map(
         &mut rings,
         &mut numbers,
     );
-    let mut order = [0u16; MAX_EDGES];
-    let mut least = [0i64; MAX_EDGES];
-    let mut reaches = [0u16; MAX_EDGES];
+    let mut order = [0u16; MAX_SHAPED];
+    let mut least = [0i64; MAX_SHAPED];
+    let mut reaches = [0u16; MAX_SHAPED];
     order_by_start(&numbers, count, &mut order);
     write_passing(&numbers, &order, count, &mut least, &mut reaches);
     list_holes(
@@ -164,7 +164,7 @@ pub fn find_holes(
     requires { ⌜ ((rs : List Ring) × Asked rs «node_count» (now «nodes_x») (now «nodes_y») (now «dir_edges_src») (now «half_edges») (now «ring_first») (now «ring_length») (now «ring_face») (now «ring_side») (now «ring_area») «ring_count») ⌝ }
     ensures holes { λ r. ⌜ ((rs : List Ring) → Asked rs «node_count» (now («nodes_x» .entry)) (now («nodes_y» .entry)) (now («dir_edges_src» .entry)) (now («half_edges» .entry)) (now («ring_first» .entry)) (now («ring_length» .entry)) (now («ring_face» .entry)) (now («ring_side» .entry)) (now («ring_area» .entry)) «ring_count»
         → map holeOf (take (r .count) (r .list)) ≡ holesOf (pointIn (now («nodes_x» .entry)) (now («nodes_y» .entry))) (origins (now («dir_edges_src» .entry))) rs) ⌝ }
-    ensures few { λ r. ⌜ (r .count ≤ limits .edges) × (length (r .list) ≡ limits .edges) ⌝ }
+    ensures few { λ r. ⌜ (r .count ≤ shapedRings limits) × (length (r .list) ≡ shapedRings limits) ⌝ }
 {
     let mut xs = [0i64; MAX_NODES];
     let mut ys = [0i64; MAX_NODES];

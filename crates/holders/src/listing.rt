@@ -3,7 +3,7 @@ ghost use mathlib.Core.Path.{_≡_};
 ghost use mathlib.Core.List.{List, map};
 ghost use Prim.Native.Nat.{ℕ, _<_, _≤_};
 ghost use lib.ListN.{length, getD, take};
-ghost use Rattle.rules.specs.Limits.{limits};
+ghost use Rattle.rules.specs.Limits.{limits, shapedRings};
 ghost use Rattle.rules.specs.Face.{Ring};
 ghost use Rattle.rules.specs.Holes.{ringAt, holderOf, holesOf};
 ghost use Rattle.holes.specs.Lent.{holeOf};
@@ -21,8 +21,8 @@ use holes::Hole;
 use holes::no_holes;
 use ring_lists::OPEN;
 use ring_lists::doubled_area;
-use tables::MAX_EDGES;
 use tables::MAX_NODES;
+use tables::MAX_SHAPED;
 use tables::NodeId;
 use tables::wide;
 
@@ -31,7 +31,7 @@ const OUTSIDE: u16 = 65535;
 
 // Records, and how many of them are holes.
 pub struct HoleList {
-    pub list: [Hole; MAX_EDGES],
+    pub list: [Hole; MAX_SHAPED],
     pub count: usize,
 }
 
@@ -118,7 +118,7 @@ pub fn list_holes(
     requires { ⌜ ((rs : List Ring) × (bound : ℕ) × Field rs (mapOf (now «dir_edges_src») (now xs) (now ys) (now «half_edges») (now nodes) (now «ring_first») (now «ring_length») (now «ring_face»)) bound slope (now rings) (now numbers) count × OpenListed rs (now «ring_side») (now «ring_area») «ring_count» × (bound ≤ limits .nodes)) ⌝ }
     requires { ⌜ InOrder (now numbers) count (now order) × Passable (now numbers) (now order) count (now least) (now reaches) ⌝ }
     ensures holes { λ r. ⌜ ((rs : List Ring) (bound : ℕ) → Field rs (mapOf (now («dir_edges_src» .entry)) (now (xs .entry)) (now (ys .entry)) (now («half_edges» .entry)) (now (nodes .entry)) (now («ring_first» .entry)) (now («ring_length» .entry)) (now («ring_face» .entry))) bound slope (now (rings .entry)) (now (numbers .entry)) count → OpenListed rs (now («ring_side» .entry)) (now («ring_area» .entry)) «ring_count» → bound ≤ limits .nodes → map holeOf (take (r .count) (r .list)) ≡ holesOf (spotIn (now (xs .entry)) (now (ys .entry))) (origins (now («dir_edges_src» .entry))) rs) ⌝ }
-    ensures few { λ r. ⌜ (r .count ≤ limits .edges) × (length (r .list) ≡ limits .edges) ⌝ }
+    ensures few { λ r. ⌜ (r .count ≤ shapedRings limits) × (length (r .list) ≡ shapedRings limits) ⌝ }
 {
     let mut list = no_holes();
     let mut stamps = [0u16; MAX_NODES];

@@ -17,6 +17,9 @@ const RISING: u8 = 1;
 
 const FALLING: u8 = 2;
 
+// How many lines the choice of a view passes over from one to the next: some tell enough of all.
+const EVERY: usize = 8;
+
 // How far to the right a point lies in a view.
 pub fn along_of(slope: u8, x: i64, y: i64) -> i64
     requires { ⌜ Near coordinateBound (spot x y) ⌝ }
@@ -82,7 +85,7 @@ pub fn choose_slope(
         plain = plain + size(dx);
         rising = rising + size(dx + dy);
         falling = falling + size(dx - dy);
-        k += 1;
+        k += EVERY;
     }
     if rising < plain {
         return RISING;

@@ -15,12 +15,12 @@ use Rattle.lists.specs.Lists.{bit, below}
 use Rattle.lists.proofs.Counts.{below-agree, length-below}
 use Rattle.rules.specs.Face.{Ring}
 use Rattle.rules.specs.State.{State}
-use Rattle.rules.specs.Ringing.{RingLists, ringsOf, ringReplies, sideBy, sideNumber}
+use Rattle.rules.specs.Ringing.{ringsOf, ringReplies, sideBy, sideNumber}
 use Rattle.rules.specs.Holes.{isOpen, ringAt}
 use Rattle.rules.specs.Extraction.{holesIn}
 use Rattle.rules.proofs.ShapedRings.{holes-many}
-use Rattle.extracting.specs.declared.Extracted.{Extracted}
-use Rattle.extracting.specs.Extraction.{Extraction, repliesOf}
+use Rattle.extracting.specs.Extraction.{repliesOf}
+use Rattle.extracting.specs.Sides.{Sided}
 use Rattle.hole_entry.specs.Open.{openSide, openAmong}
 
 -- ---- the loop that counts
@@ -49,27 +49,27 @@ replies-many : (s : State) (all : List Ring) (first : ℕ) (rs : List Ring) → 
 replies-many s all first [] = refl
 replies-many s all first (r ∷ rs) = ap suc (replies-many s all (first + length (r .halfEdges)) rs)
 
-module _ (s : State) (out out′ : RingLists) (r : Extracted) (e : Extraction s out out′ r) where
+module _ (s : State) (sides₀ sides : List ℕ) (n : ℕ) (e : Sided s sides₀ sides n) where
   -- the sides replied
-  abbrev sides : List ℕ
-  sides = map (λ w. sideNumber (w .side)) (repliesOf s)
+  abbrev replied : List ℕ
+  replied = map (λ w. sideNumber (w .side)) (repliesOf s)
 
   -- there is one for each ring that was counted
-  sides-many : length sides ≡ r .count
-  sides-many = replies-many s (ringsOf s) 0 (ringsOf s) ∙ sym (e .count)
+  replied-many : length replied ≡ n
+  replied-many = replies-many s (ringsOf s) 0 (ringsOf s) ∙ sym (e .number)
 
   -- they stand in the list
-  pub sides-within : r .count ≤ length (out′ .side)
-  sides-within = omega (arith, sides-many, ap length (e .side), length-append sides (drop (length sides) (out .side)))
+  pub sides-within : n ≤ length sides
+  sides-within = omega (arith, replied-many, ap length (e .side), length-append replied (drop (length replied) sides₀))
 
   -- and as many of them are open as there are holes
-  pub open-holes : length (openAmong (out′ .side) (r .count)) ≡ length (holesIn s)
+  pub open-holes : length (openAmong sides n) ≡ length (holesIn s)
   open-holes =
-      ap length (below-agree (λ i. eqb (getD (out′ .side) i 0) openSide) (λ i. isOpen (ringAt (ringsOf s) i)) (r .count) same)
-      ∙ ap (λ n. length (below (λ i. isOpen (ringAt (ringsOf s) i)) n)) (e .count) ∙ sym (holes-many s)
+      ap length (below-agree (λ i. eqb (getD sides i 0) openSide) (λ i. isOpen (ringAt (ringsOf s) i)) n same)
+      ∙ ap (λ k. length (below (λ i. isOpen (ringAt (ringsOf s) i)) k)) (e .number) ∙ sym (holes-many s)
     where
-      same : (i : ℕ) → i < r .count → eqb (getD (out′ .side) i 0) openSide ≡ isOpen (ringAt (ringsOf s) i)
+      same : (i : ℕ) → i < n → eqb (getD sides i 0) openSide ≡ isOpen (ringAt (ringsOf s) i)
       same i h =
           ap (λ l. eqb (getD l i 0) openSide) (e .side)
-          ∙ ap (λ k. eqb k openSide) (List·getD-append sides (drop (length sides) (out .side)) 0 i (omega (arith, sides-many)))
-          ∙ open-at s (ringsOf s) 0 (ringsOf s) i (omega (arith, e .count))
+          ∙ ap (λ k. eqb k openSide) (List·getD-append replied (drop (length replied) sides₀) 0 i (omega (arith, replied-many)))
+          ∙ open-at s (ringsOf s) 0 (ringsOf s) i (omega (arith, e .number))

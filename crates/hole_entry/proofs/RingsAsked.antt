@@ -24,7 +24,7 @@ use Rattle.rules.proofs.Tables.{source-below, sound-sane, sound-rings}
 use Rattle.rules.proofs.Replies.{from-replies, rings-of-halves}
 use Rattle.rules.proofs.Claims.{number-exact, each-at, rings-low}
 use Rattle.rules.proofs.Additions.{coordinates-both}
-use Rattle.rules.proofs.ShapedRings.{few-enclosed, few-open}
+use Rattle.rules.proofs.ShapedRings.{shaped-enclosed, shaped-open}
 use Rattle.extracting.specs.Extraction.{Extraction}
 use Rattle.extracting.specs.declared.Extracted.{Extracted}
 use Rattle.extracting.proofs.Starts.{rings-inside, ring-some}
@@ -165,6 +165,6 @@ module _ (s : State) (inX : limits .nodes ≤ length (s .nodeX)) (inY : limits .
       inSide = listed-long s (λ w. sideNumber (w .side)) (out′ .side) (out .side) (e .side);
       sided = side-is;
       apart = faces-apart limits s sense;
-      fewEnclosed = omega (arith, few-enclosed limits s sense, ok .edges);
-      fewOpen = omega (arith, few-open limits s sense, ok .edges);
+      fewEnclosed = shaped-enclosed limits s sense;
+      fewOpen = shaped-open limits s sense;
     }

@@ -5,7 +5,7 @@ use mathlib.Core.Bool.{Bool, true}
 use mathlib.Core.List.{List}
 use lib.Ieee.{Float}
 use lib.ListN.{length, take}
-use Rattle.rules.specs.Limits.{limits}
+use Rattle.rules.specs.Limits.{limits, shapedRings}
 use Rattle.rules.specs.State.{sound}
 use Rattle.rules.specs.Ringing.{RingLists}
 use Rattle.rules.specs.Extraction.{holesIn}
@@ -31,5 +31,5 @@ module _ (graph : PlanarGraph) (floats : List Float) (numbers halfEdges first si
   -- the holes of every such state, in a full array
   pub record HolesFound (r : HoleList) : Type 0 where
     pub holes : (g : RingsGiven) → lentHoles (take (r .count) (r .list)) ≡ holesIn (stateIn limits graph floats numbers (g .stars) (g .marks) (g .ids))
-    pub few : r .count ≤ limits .edges
-    pub full : length (r .list) ≡ limits .edges
+    pub few : r .count ≤ shapedRings limits
+    pub full : length (r .list) ≡ shapedRings limits

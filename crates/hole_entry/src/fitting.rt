@@ -11,9 +11,9 @@ ghost use Rattle.rules.specs.Extraction.{holesIn};
 ghost use Rattle.tables.specs.Regions.{stateIn, leastFloats, leastNumbers, leastStars, leastMarks};
 ghost use Rattle.ring_entry.specs.Given.{SliceSound};
 ghost use Rattle.hole_entry.specs.Open.{openAmong};
-use ring_entry::extract_regions;
+use ring_entry::sides_of_regions;
 use ring_lists::OPEN;
-use tables::MAX_HALF_EDGES;
+use tables::MAX_EDGES;
 use tables::PlanarGraph;
 
 // How many of the first rings are open.
@@ -31,8 +31,8 @@ fn open_rings(ring_side: &[u8], count: usize) -> usize
 }
 
 // Number 13: a hole list of `room` records has one for each open ring. There are never more of these
-// than edges; a shorter list has the rings extracted into lists of its own, so that nothing lent is
-// written before the test.
+// than edges; for a shorter list the rings are listed into tables of their own and the open ones counted,
+// so that nothing lent is written before the test.
 pub fn holes_fit(
     room: usize,
     graph: PlanarGraph,
@@ -48,24 +48,7 @@ pub fn holes_fit(
     if tables::wide(graph.edge_count) <= room {
         return true;
     }
-    let mut half_edges = [0u16; MAX_HALF_EDGES];
-    let mut ring_first = [0u16; MAX_HALF_EDGES];
-    let mut ring_length = [0u16; MAX_HALF_EDGES];
-    let mut ring_face = [0u16; MAX_HALF_EDGES];
-    let mut ring_side = [0u8; MAX_HALF_EDGES];
-    let mut ring_area = [0.0f64; MAX_HALF_EDGES];
-    let done = extract_regions(
-        graph,
-        floats,
-        numbers,
-        stars,
-        marks,
-        &mut half_edges,
-        &mut ring_first,
-        &mut ring_length,
-        &mut ring_face,
-        &mut ring_side,
-        &mut ring_area,
-    );
-    open_rings(&ring_side, tables::wide(done.count)) <= room
+    let mut ring_side = [0u8; MAX_EDGES];
+    let count = sides_of_regions(graph, floats, numbers, stars, marks, &mut ring_side);
+    open_rings(&ring_side, tables::wide(count)) <= room
 }

@@ -16,7 +16,7 @@ use checks::check_holes;
 use cycles::Census;
 use holes::Hole;
 use making::extract_checked;
-use tables::MAX_EDGES;
+use tables::MAX_SHAPED;
 use tables::PlanarGraph;
 use tables::Refusal;
 
@@ -36,7 +36,7 @@ pub struct Ringed {
 // What the core hands to the entry: the holes to write, and the answer. The records come first, so that
 // no padding is copied with them: a copy between places that are not aligned to each other is slow.
 pub struct Made {
-    pub list: [Hole; MAX_EDGES],
+    pub list: [Hole; MAX_SHAPED],
     pub count: usize,
     pub ringed: Ringed,
 }

@@ -4,7 +4,7 @@ ghost use mathlib.Core.Bool.{true};
 ghost use mathlib.Core.List.{List};
 ghost use Prim.Native.Nat.{ℕ, _*_, _≤_};
 ghost use lib.ListN.{length};
-ghost use Rattle.rules.specs.Limits.{limits};
+ghost use Rattle.rules.specs.Limits.{limits, shapedRings};
 ghost use Rattle.rules.specs.State.{sound};
 ghost use Rattle.tables.specs.Regions.{stateIn, leastFloats, leastNumbers, leastStars, leastMarks};
 ghost use Rattle.extracting.specs.Extraction.{listsOf, Room};
@@ -21,7 +21,7 @@ use tables::PlanarGraph;
 
 // The answer: each active edge has both halves in rings.
 fn answer(done: Extracted, holes: usize) -> RingsReply
-    requires { ⌜ (done .census .edges ≤ limits .edges) × (holes ≤ limits .edges) ⌝ }
+    requires { ⌜ (done .census .edges ≤ limits .edges) × (holes ≤ shapedRings limits) ⌝ }
     ensures { λ r. ⌜ r ≡ answerOf done holes ⌝ }
 {
     let census = done.census;

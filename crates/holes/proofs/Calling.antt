@@ -27,7 +27,7 @@ use denote.Struct.Laws as LL
 use denote.Triple.Statement.{Contract}
 use denote.Triple.Spec.{tripleOf}
 use denote.Triple.Walked.{says}
-use Rattle.rules.specs.Limits.{limits}
+use Rattle.rules.specs.Limits.{limits, shapedRings}
 use Rattle.holes.specs.declared.Hole.{Hole}
 use Rattle.holes.proofs.Rows.{by-record}
 use Rattle.holes.proofs.Hole as T
@@ -40,11 +40,11 @@ R = T.the-row
 
 -- an array of records
 abbrev pub Records : RattleType
-Records = Array R (limits .edges)
+Records = Array R (shapedRings limits)
 
 -- an array that is a struct's field, as a value of its own
-pub listed : (list : List Hole) (vs : List Val) → Is (Array (Struct (shape T.the-type)) (limits .edges)) (map (T.the-type .to) list) vs → Is Records list vs
-listed list vs is = by-record (Struct (shape T.the-type)) Hole (T.the-type .to) (T.the-type .to-one) (limits .edges) list vs is
+pub listed : (list : List Hole) (vs : List Val) → Is (Array (Struct (shape T.the-type)) (shapedRings limits)) (map (T.the-type .to) list) vs → Is Records list vs
+listed list vs is = by-record (Struct (shape T.the-type)) Hole (T.the-type .to) (T.the-type .to-one) (shapedRings limits) list vs is
 
 -- what is owned of a lent list
 abbrev pub Own : Lft → RefT (List Hole) → Fml
@@ -60,8 +60,8 @@ module _ {M : Type 1} (𝓤 : URA M) (H : Heap 𝓤) (A : Atoms 𝓤) (W : Given
   to-fill = (((κ, tt), (q, tt), tt, (x, (list, (count, tt))), (sliceVal (x .ptr) (length (x .now)) ∷ [], (us, (vint w64 count ∷ [], tt)))), tt)
 
   -- the list, with its token, and plain values are all that is asked
-  pub asks : Is Records list us → Is usize count (vint w64 count ∷ []) → count ≤ length (x .now) → count ≤ limits .edges → ent 𝓤 (sep 𝓤 (A .lft κ q) (sem 𝓤 H A (Own κ x))) (Fill 𝓤 H A mem run .pre to-fill)
+  pub asks : Is Records list us → Is usize count (vint w64 count ∷ []) → count ≤ length (x .now) → count ≤ shapedRings limits → ent 𝓤 (sep 𝓤 (A .lft κ q) (sem 𝓤 H A (Own κ x))) (Fill 𝓤 H A mem run .pre to-fill)
   asks is fits roomed few =
       qed W (‵ (flft κ q) ∷ ‵ (Own κ x) ∷ []) ∵ says ! (roomed, few) $ nothing ! $ move ! (1 ∷ 0 ∷ []) $ join ! $ frame ! $
       nothing ! $ owned ! usize (Is usize) (uint-makes 𝓤 H A W w64) count _ fits $ fjoin ! $
-      owned ! Records (Is Records) (array-makes 𝓤 H A W R (LL.makes T.the-type T′.the-plain 𝓤 H A) (limits .edges)) list _ is $ fjoin ! $ move ! (1 ∷ 0 ∷ []) $ fjoin ! $ done !
+      owned ! Records (Is Records) (array-makes 𝓤 H A W R (LL.makes T.the-type T′.the-plain 𝓤 H A) (shapedRings limits)) list _ is $ fjoin ! $ move ! (1 ∷ 0 ∷ []) $ fjoin ! $ done !

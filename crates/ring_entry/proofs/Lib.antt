@@ -1,2 +1,3 @@
 -- the tests of ring extraction
 pub mod Shell
+pub mod Lending

@@ -2,9 +2,11 @@
 mod checks;
 mod lengths;
 mod regions;
+mod sides;
 
 pub use checks::check_rings;
 pub use regions::extract_regions;
+pub use sides::sides_of_regions;
 ghost use Rattle.rules.specs.Limits.{limits};
 ghost use Rattle.tables.specs.Regions.{stateIn};
 ghost use Rattle.extracting.specs.Extraction.{listsOf};

@@ -11,7 +11,7 @@ use lib.Seq.{set-append-left, drop-at, sets}
 use lib.Dec.{ltb}
 use lib.Ieee.{Float, nan}
 use Rattle.lists.specs.Lists.{In, below, flatten, over}
-use Rattle.lists.proofs.Counts.{by-test, by-lt, bit-le, true-is-false, in-head, in-tail, below-le, flatten-append}
+use Rattle.lists.proofs.Counts.{by-test, by-lt, bit-le, true-is-false, in-head, in-tail, below-le, below-mono, flatten-append}
 use Rattle.lists.proofs.Sums.{pigeonhole}
 use Rattle.rules.specs.Cycles.{cycle, isStart, lowest, halves}
 use Rattle.rules.specs.Split.{splitSuccessor, minimalRings}
@@ -142,6 +142,14 @@ module _ (edges : ℕ) (next source : List ℕ) (marks : List Bool) (xs ys : Lis
         let on = unmarked marks in
         rw (sweep-done f n on t k h .found) (omega (arith, length-map (below (isStart f n on) k) (cycle f n), below-le (isStart f n on) k))
 
+    -- nor more than rings in all
+    found-within : (k : ℕ) → k ≤ 2 * edges → length (after k .found) ≤ length (tableRings edges next marks)
+    found-within k h =
+        let f = entryOf next in
+        let n : ℕ = 2 * edges in
+        let on = unmarked marks in
+        rw (sweep-done f n on t k h .found) (omega (arith, length-map (below (isStart f n on) k) (cycle f n), length-map (below (isStart f n on) n) (cycle f n), below-mono (isStart f n on) k n h))
+
     -- so the count is small too
     pub held-few : (seen : List Bool) (halves keys : List ℕ) (rows : RingRows) (count at k : ℕ) → Held seen halves keys rows count at k → count ≤ k
     held-few seen halves keys rows count at k r = omega (arith, r .listed .number, found-few k (r .inside))
@@ -166,8 +174,12 @@ module _ (edges : ℕ) (next source : List ℕ) (marks : List Bool) (xs ys : Lis
               length-append (flatten (after k .found)) ring,
             )
 
+        -- and a row
+        pub held-row : count < length (tableRings edges next marks)
+        held-row = omega (arith, r .listed .number, found-within (suc k) h, ap (λ s. length (s .found)) found-new, length-append (after k .found) (cycle (entryOf next) (2 * edges) k ∷ []))
+
         -- it is listed behind the others
-        pub held-new : 2 * edges ≤ length halves₀ → RowsRoom (2 * edges) rows₀
+        pub held-new : 2 * edges ≤ length halves₀ → RowsRoom (length (tableRings edges next marks)) rows₀
             → (seen′ : List Bool) (halves′ keys′ : List ℕ) (rows′ : RingRows) (tally : Tally) (count′ end : ℕ) → WalkedRing (entryOf next) (2 * edges) k at source xs ys seen halves keys seen′ halves′ keys′ tally
             → rows′ ≡ rowPut count at tally rows → count′ ≡ count + 1 → end ≡ at + tally .count → Held seen′ halves′ keys′ rows′ count′ end (k + 1)
         held-new inHalves inRows seen′ halves′ keys′ rows′ tally count′ end w p c q =
@@ -176,7 +188,7 @@ module _ (edges : ℕ) (next source : List ℕ) (marks : List Bool) (xs ys : Lis
             let ring = cycle f n k in
             let rs = after k .found in
             let o = r .listed in
-            let few = found-few k (r .inside) in
+            let few : length rs < length (tableRings edges next marks) = omega (arith, held-row, o .number) in
             let written : rows′ ≡ rowPut count at (tallyOf source xs ys ring) rows = p ∙ ap (λ z. rowPut count at z rows) (w .tallied) in
             let long : end ≡ at + length ring = q ∙ ap (λ z. at + z .count) (w .tallied) in
             record {

@@ -94,7 +94,8 @@ pub record RowsRoom (n : ℕ) (rows : RingRows) : Type 0 where
   pub inSide : n ≤ length (rows .side)
   pub inArea : n ≤ length (rows .area)
 
--- what listing the rings asks: the table permutes the active half-edges, these start at nodes, and tables and lists are long enough
+-- what listing the rings asks: the table permutes the active half-edges, these start at nodes, tables and lists are long enough, and the rows
+-- have an entry for each ring
 pub record Listable (l : Limits) (edges : ℕ) (next source : List ℕ) (marks : List Bool) (xs ys : List Float) (halfEdges keys : List ℕ) (rows : RingRows) : Type 0 where
   pub permutes : Permutes (entryOf next) (2 * edges) (unmarked marks)
   pub few : edges ≤ l .edges
@@ -103,7 +104,7 @@ pub record Listable (l : Limits) (edges : ℕ) (next source : List ℕ) (marks :
   pub inMarks : 2 * edges ≤ length marks
   pub inHalfEdges : 2 * edges ≤ length halfEdges
   pub inKeys : keysY + 2 * edges ≤ length keys
-  pub inRows : RowsRoom (2 * edges) rows
+  pub inRows : RowsRoom (length (tableRings edges next marks)) rows
 
 -- what it leaves: the half-edges ring by ring, and of each ring its first place, its length, its side and its area
 pub record Listed (rings : List (List ℕ)) (source : List ℕ) (xs ys : List Float) (halfEdges₀ : List ℕ) (rows₀ : RingRows) (halfEdges : List ℕ) (rows : RingRows) (count : ℕ) : Type 0 where

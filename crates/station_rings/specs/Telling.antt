@@ -4,7 +4,7 @@ use mathlib.Core.Path.{_≡_}
 use mathlib.Core.List.{List}
 use lib.ListN.{length, take}
 use Rattle.lists.specs.Lists.{over}
-use Rattle.rules.specs.Limits.{limits}
+use Rattle.rules.specs.Limits.{limits, shapedRings}
 use Rattle.rules.specs.Ringing.{RingLists}
 use Rattle.rules.specs.Holes.{Hole}
 use Rattle.rules.specs.Extraction as rules
@@ -22,8 +22,8 @@ withHoles k holes = lent (k .small) (k .floats) (k .numbers) (k .stars) (k .byte
 abbrev pub writtenOver : Told → List Hole → List Hole
 writtenOver r old = over (lentHoles (take (r .count) (r .list))) old
 
--- Of every hole list with so many records: with the holes told written over it, the call is done. They are no more than its records, nor than edges.
+-- Of every hole list with so many records: with the holes told written over it, the call is done. They are no more than its records, nor than rings with an area.
 pub record Tells (room : ℕ) (k : Lent RingLists) (r : Told) (k′ : Lent RingLists) : Type 0 where
   pub done : (old : List Hole) → length old ≡ room → gives (r .number) (withHoles k′ (writtenOver r old)) ≡ ringed (withHoles k old)
   pub roomed : r .count ≤ room
-  pub few : r .count ≤ limits .edges
+  pub few : r .count ≤ shapedRings limits

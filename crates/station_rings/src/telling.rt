@@ -12,14 +12,14 @@ use replies::RINGS_LENGTH;
 use replies::STATE_LENGTH;
 use replies::answer_rings;
 use replies::read_state;
-use tables::MAX_EDGES;
+use tables::MAX_SHAPED;
 use tables::Refusal;
 use tables::refusal_number;
 
 // What the core tells the entry: the holes to write, and the number to answer. The records come first,
 // as in `Made`.
 pub struct Told {
-    pub list: [Hole; MAX_EDGES],
+    pub list: [Hole; MAX_SHAPED],
     pub count: usize,
     pub number: u32,
 }

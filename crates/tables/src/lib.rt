@@ -98,6 +98,10 @@ pub const MAX_EDGES: usize = 2048;
 
 pub const MAX_PAIRS: usize = 4096;
 
+// How many rings with an area there are at most: each has three half-edges or more, and together they
+// have at most two for each edge.
+pub const MAX_SHAPED: usize = 2 * MAX_EDGES / 3;
+
 // No place: it ends a list of line ids.
 pub const LIST_END: u16 = 65535;
 

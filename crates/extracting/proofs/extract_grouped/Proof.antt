@@ -17,7 +17,7 @@ use Rattle.rules.specs.State.{State, arrangement, nodeKey, sound}
 use Rattle.rules.specs.Naming.{namingComparisons}
 use Rattle.rules.specs.Ringing.{ringsOf, sideNumber, sideArea}
 use Rattle.rules.proofs.Histories.{fine-limits}
-use Rattle.rules.proofs.Soundness.{is-roomy, is-sound}
+use Rattle.rules.proofs.Soundness.{is-sound}
 use Rattle.rules.proofs.Replies.{rings-of-halves}
 use Rattle.tables.specs.Tables.{stateOf}
 use Rattle.stars.specs.Grouped.{Grouped}
@@ -30,6 +30,7 @@ use Rattle.faces.specs.Numbers.{ringsAt, faceNumbers, comparisonsAt, Numberable
 use Rattle.extracting.specs.Listing.{keysXOf, keysYOf, RingsListed}
 use Rattle.extracting.proofs.Numbering.{rings-few, flat-few, comparisons-fit, faces-replied, comparisons-replied, numberable}
 use Rattle.extracting.proofs.Outcome.{arrangement-is, held-sane, total-is, rings-many}
+use Rattle.extracting.proofs.Arranging.{sound-arranged}
 use Rattle.extracting.proofs.extract_grouped.Statement.{statement}
 use Rattle.extracting.proofs.extract_grouped.Tie as tie
 
@@ -120,17 +121,8 @@ list-rings-requires c κs =
     let s : tie.Start = c .before .before .before .before .before .before .before .before .before .before .before .before .before .before .before .before .before .before in
     let p = s .pre in
     let k = own s in
-    let r = is-roomy limits k (p .roomed) in
     let ok = is-sound limits k (p .sense) in (
-      record {
-        star = p .star;
-        groups = p .groups;
-        sane = held-sane limits k (p .sense);
-        fewNodes = ok .nodes;
-        fewEdges = ok .edges;
-        inSource = omega (arith, ok .edges, r .source);
-        inMarks = omega (arith, ok .edges, r .halfMark);
-      },
+      sound-arranged limits k (p .sense) (p .roomed) (s .args .offsets .now) (s .args .grouped .now) (p .groups),
       sound-sortable limits k (p .roomed) (p .sense) .located,
       record { inHalfEdges = p .long .inHalfEdges; inKeys = omega (arith, ok .edges, length-replicate {A = ℕ} (2 * keysY) 0); inRows = record { inFirst = p .long .inFirst; inSize = p .long .inSize; inSide = p .long .inSide; inArea = p .long .inArea } },
     )

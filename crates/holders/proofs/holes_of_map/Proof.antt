@@ -5,7 +5,7 @@ use mathlib.Core.Path.{_≡_, sym, subst}
 use mathlib.Core.List.{List}
 use lib.IntN.{ℤ, pos}
 use lib.ListN.{replicate}
-use Rattle.rules.specs.Limits.{limits}
+use Rattle.rules.specs.Limits.{limits, shapedRings}
 use Rattle.rules.specs.Face.{Ring}
 use Rattle.candidates.specs.Candidates.{numbersOf, Candidates}
 use Rattle.holders.specs.Maps.{Map, mapOf}
@@ -32,10 +32,10 @@ ReadyAt s rs = Ready rs (s .args .node-count) (here s) (s .args .ring-side .now)
 
 -- zeros, over which they are written
 abbrev noRings : List ℕ
-noRings = replicate (limits .edges) 0
+noRings = replicate (shapedRings limits) 0
 
 abbrev noNumbers : List ℤ
-noNumbers = replicate (numbersOf * limits .edges) (pos 0)
+noNumbers = replicate (numbersOf * shapedRings limits) (pos 0)
 
 -- the candidates
 abbrev rings : tie.After-list-slanted → List ℕ
@@ -97,8 +97,8 @@ order-by-start-requires c κs =
     ready-orderable (s .pre .0) (s .args .node-count) (here s) (s .args .ring-side .now) (s .args .ring-area .now) (s .args .ring-count) (s .pre .1) (s .args .slope) (rings e) (numbers e) (e .list-slanted .result) (l .0) (l .1) (l .2)
     _ (omega arith)
 
--- there are no more candidates than edges
-few : (c : tie.After-list-slanted) → c .list-slanted .result ≤ limits .edges
+-- there are no more candidates than rings with an area
+few : (c : tie.After-list-slanted) → c .list-slanted .result ≤ shapedRings limits
 few c = let s = start c in omega (arith, listed c (s .pre .0) (s .pre .1) .2 .many, s .pre .1 .fewEnclosed)
 
 -- their order

@@ -47,7 +47,7 @@ use denote.Triple.Spec.{Meets, tripleOf}
 use denote.Triple.Table.{entered}
 use denote.Triple.Walked.{says, needs, Stays, stay-dropped, stay-slice, walkOf, goes-dropped, goes-slice, Walks, ends-at, walked, walk-meets}
 use denote.Exit.{yes}
-use Rattle.rules.specs.Limits.{limits}
+use Rattle.rules.specs.Limits.{limits, shapedRings}
 use Rattle.holes.specs.Filled.{filled}
 use Rattle.holes.specs.declared.Hole.{Hole}
 use Rattle.holes.proofs.Filling.{filled-step, filled-length, Upto, Later, later-ends}
@@ -66,7 +66,7 @@ R = T.the-row
 
 -- an array of records
 abbrev Arr : Slot 1
-Arr = ArrayOf (plain (λ _. R)) (λ _. tt) (limits .edges)
+Arr = ArrayOf (plain (λ _. R)) (λ _. tt) (shapedRings limits)
 
 -- of the list its last value is known at exit, and the other parameters are given up
 abbrev stayed : Stays (fill-holes.ended .signature .params) (fill-holes.ended .kept)
@@ -100,10 +100,10 @@ abbrev slice : Ty
 slice = sliceTy (tyRef (named 0) mut (pointee (R .written)))
 
 abbrev array : Ty
-array = tyArray T′.mir (limits .edges)
+array = tyArray T′.mir (shapedRings limits)
 
 module _ {M : Type 1} (𝓤 : URA M) (H : Heap 𝓤) (A : Atoms 𝓤) (W : Given 𝓤 H A) (mem : Memory → SProp 𝓤) (run : Routine → Fun 𝓤) (κ : Lft) (q : Share) (b o : ℕ) (γ : GName) (ys new : List Hole) (n : ℕ) (n-fits : n < 2 ^ 64)
-    (room : Room R (length ys)) (is : Is (Array R (limits .edges)) new (array-vals vals new)) (long : length new ≡ limits .edges) (in-ys : n ≤ length ys) (in-new : n ≤ limits .edges) where
+    (room : Room R (length ys)) (is : Is (Array R (shapedRings limits)) new (array-vals vals new)) (long : length new ≡ shapedRings limits) (in-ys : n ≤ length ys) (in-new : n ≤ shapedRings limits) where
   -- the borrowed list
   abbrev x : List Hole → RefT (List Hole)
   x l = record { ptr = (b, o); name = γ; now = l }
@@ -201,7 +201,7 @@ module _ {M : Type 1} (𝓤 : URA M) (H : Heap 𝓤) (A : Atoms 𝓤) (W : Given
         assigns ! (bin ! (load ! (from ! (stop !)) (look ! 2 refl)) (load ! (from ! (stop !)) (look ! 11 refl)) tt) (from ! (stop !)) (init ! 3 refl (tt, tt)) $
         rewrite ! 3 (λ (t : Bool). ‵ (fat fullShare tyBool l₆ 0 (vbool t))) (le-ltb n n (omega arith)) refl $ leaves-loop ! (load ! (from ! (stop !)) (look ! 3 refl)) $ exec ! (𝓣 .C) (𝓣 .Λ) En mir.t-4 (atRet En Post) $
         assigns ! (of-opd ! (unit-lit !)) (from ! (stop !)) (init ! 13 refl (tt, tt)) $
-        move ! (0 ∷ 14 ∷ 15 ∷ 16 ∷ []) $ closes-slice ! tt R ys zs kept b o $ move ! (3 ∷ []) $ use1 W (‵ (froom array l₄ 0)) (emptied 𝓤 H A W R (limits .edges) new l₄ long) $
+        move ! (0 ∷ 14 ∷ 15 ∷ 16 ∷ []) $ closes-slice ! tt R ys zs kept b o $ move ! (3 ∷ []) $ use1 W (‵ (froom array l₄ 0)) (emptied 𝓤 H A W R (shapedRings limits) new l₄ long) $
         -- [room for _4; obs; the borrow; the token; _5 to _12; _1; _3; _2; _0; and that each local dies]
         returns ! (look ! 15 refl) $ forget ! 4 refl $ forget ! 5 refl $ forget ! 12 refl $ forget ! 13 refl $ forget ! 15 refl $
         move ! (15 ∷ 16 ∷ []) $ free1 ! $ move ! (12 ∷ 15 ∷ []) $ free1 ! $ move ! (13 ∷ 14 ∷ []) $ free1 ! $ move ! (12 ∷ 13 ∷ []) $ free1 ! $ move ! (0 ∷ 12 ∷ []) $ free1 ! $
@@ -217,27 +217,27 @@ module _ {M : Type 1} (𝓤 : URA M) (H : Heap 𝓤) (A : Atoms 𝓤) (W : Given
   arr = arrayVal (map (λ h. T′.lowered h) new)
 
   typed : Holds (hasTy array arr) × WT arr
-  typed = array-typed R (λ h vs g. LL.lawful T.the-type T′.the-laws 𝓤 H A W .typed h vs g) (limits .edges) new (arr ∷ []) is .0
+  typed = array-typed R (λ h vs g. LL.lawful T.the-type T′.the-laws 𝓤 H A W .typed h vs g) (shapedRings limits) new (arr ∷ []) is .0
 
   -- the whole body
   walk : (𝓣 : Tables 𝓤 H) → ent 𝓤 (onEntry 𝓤 H A fill-holes.signature (κ, tt) (q, tt) given machs) (WpFn 𝓤 H (𝓣 .C) (𝓣 .Λ) code.function (s ∷ arr ∷ vint w64 n ∷ []) Post)
   walk 𝓣 =
-      qed W ((‵ (flft κ q) ⊛ ‵ ftrue) ∷ ‵ (owns (MutSlice (named 0) κ R ∷ Array R (limits .edges) ∷ usize ∷ []) given machs) ∷ []) ∵ enter ! (𝓣 .C) (𝓣 .Λ) code.function (s ∷ arr ∷ vint w64 n ∷ []) _ $
+      qed W ((‵ (flft κ q) ⊛ ‵ ftrue) ∷ ‵ (owns (MutSlice (named 0) κ R ∷ Array R (shapedRings limits) ∷ usize ∷ []) given machs) ∷ []) ∵ enter ! (𝓣 .C) (𝓣 .Λ) code.function (s ∷ arr ∷ vint w64 n ∷ []) _ $
       alloc1 ! (λ l₀. alloc1 ! (λ l₁. alloc1 ! (λ l₂. alloc1 ! (λ l₃. alloc1 ! (λ l₄. alloc1 ! (λ l₅. alloc1 ! (λ l₆. alloc1 ! (λ l₇. alloc1 ! (λ l₈. alloc1 ! (λ l₉. alloc1 ! (λ l₁₀. alloc1 ! (λ l₁₁. alloc1 ! (λ l₁₂. alloc0 ! $ params1 ! $
       pass1 ! (init ! 22 refl (tt, (tt, (record { fits = room .0 }, tt)))) $ pass1 ! (init ! 20 refl typed) $ pass1 ! (init ! 18 refl (tt, record { fits = n-fits })) $ pass0 ! $
       assigns ! (of-opd ! (load ! (from ! (stop !)) (look ! 20 refl))) (from ! (stop !)) (init ! 16 refl typed) $ forget ! 20 refl $
       assigns ! (of-opd ! (lit ! tt)) (from ! (stop !)) (init ! 14 refl (tt, record { fits = lit< tt })) $
       -- the borrow is opened, and the local array's cell becomes the row of its elements
       move ! (27 ∷ []) $ fsplit ! $ fsplit ! $ move ! (1 ∷ []) $ fsplit ! $ move ! (30 ∷ []) $ split ! $ move ! (2 ∷ 3 ∷ 0 ∷ []) $ opens-slice ! tt R ys b o $
-      move ! (6 ∷ []) $ fsplit ! $ move ! (24 ∷ 0 ∷ []) $ use2 W (‵ (row R fullShare new l₄ 0)) (spread 𝓤 H A W R (limits .edges) new l₄ tt arr) $
+      move ! (6 ∷ []) $ fsplit ! $ move ! (24 ∷ 0 ∷ []) $ use2 W (‵ (row R fullShare new l₄ 0)) (spread 𝓤 H A W R (shapedRings limits) new l₄ tt arr) $
       keep ! (2 ∷ 0 ∷ 22 ∷ 20 ∷ 18 ∷ 16 ∷ 14 ∷ 12 ∷ 10 ∷ 8 ∷ 29 ∷ 25 ∷ 27 ∷ 31 ∷ 3 ∷ 4 ∷ 5 ∷ 32 ∷ 30 ∷ 28 ∷ 26 ∷ 24 ∷ 23 ∷ 21 ∷ 19 ∷ 17 ∷ 15 ∷ 13 ∷ 11 ∷ 9 ∷ []) $
       first ! $ blocks ! $ loops ! 𝓣 (Later n) (later-ends n) (Inv 𝓣 l₀ l₁ l₂ l₃ l₄ l₅ l₆ l₇ l₈ l₉ l₁₀ l₁₁ l₁₂) (turns 𝓣 l₀ l₁ l₂ l₃ l₄ l₅ l₆ l₇ l₈ l₉ l₁₀ l₁₁ l₁₂) (0, omega arith))))))))))))))
 
 module _ {M : Type 1} (𝓤 : URA M) (H : Heap 𝓤) (A : Atoms 𝓤) (W : Given 𝓤 H A) (mem : Memory → SProp 𝓤) (run : Routine → Fun 𝓤) (𝓣 : Tables 𝓤 H) where
   fill-holes-walks : Walks 𝓤 H A fill-holes.ended stayed (WpFn 𝓤 H (𝓣 .C) (𝓣 .Λ) code.function) (fill-holes.clauses 𝓤 H A mem run)
   fill-holes-walks = walked 𝓤 H A fill-holes.ended stayed (fill-holes.clauses 𝓤 H A mem run) (WpFn 𝓤 H (𝓣 .C) (𝓣 .Λ) code.function)
-      (λ κs. (slice-vals, (array-vals vals, (uint-vals w64, tt)))) (λ κs. (mut-slice-tells (named 0) (κs .0) R, (array-tells R vals (LL.tells T.the-type T′.the-laws) (limits .edges), (uint-tells w64, tt))))
-      (λ κs qs bounds a g are. needs 𝓤 ((a .1 .1 .0 ≤ length (a .0 .now)) × (a .1 .1 .0 ≤ limits .edges)) _ (λ short.
+      (λ κs. (slice-vals, (array-vals vals, (uint-vals w64, tt)))) (λ κs. (mut-slice-tells (named 0) (κs .0) R, (array-tells R vals (LL.tells T.the-type T′.the-laws) (shapedRings limits), (uint-tells w64, tt))))
+      (λ κs qs bounds a g are. needs 𝓤 ((a .1 .1 .0 ≤ length (a .0 .now)) × (a .1 .1 .0 ≤ shapedRings limits)) _ (λ short.
       walk 𝓤 H A W mem run (κs .0) (qs .0) (a .0 .ptr .0) (a .0 .ptr .1) (a .0 .name) (a .0 .now) (a .1 .0) (a .1 .1 .0) (are .1 .1 .0 .1) (are .0 .0 .1) (are .1 .0) (are .1 .0 .1 .0 .1) (short .0) (short .1) 𝓣))
 
   fill-holes-meets : Meets 𝓤 H A fill-holes.signature (WpFn 𝓤 H (𝓣 .C) (𝓣 .Λ) code.function) (fill-holes.spec 𝓤 H A mem run)

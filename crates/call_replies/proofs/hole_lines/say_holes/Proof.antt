@@ -1,7 +1,7 @@
 -- `say_holes` ends: it says no more records than there are.
 use Prim.Native.Nat.{_-_}
 use borrow.Author.Needs.{needs}
-use Rattle.rules.specs.Limits.{limits}
+use Rattle.rules.specs.Limits.{limits, shapedRings}
 use Rattle.call_replies.proofs.hole_lines.say_holes.Statement.{statement}
 use Rattle.call_replies.proofs.hole_lines.say_holes.Tie as tie
 
@@ -9,7 +9,7 @@ abbrev Inv-loop : tie.InvT-loop
 Inv-loop count list i₀ i = Unit {0}
 
 abbrev μ-loop : tie.MeasureT-loop
-μ-loop count list i₀ i = limits .edges - i
+μ-loop count list i₀ i = shapedRings limits - i
 
 loop-holds : tie.Need-loop-holds Inv-loop μ-loop
 loop-holds c = search needs

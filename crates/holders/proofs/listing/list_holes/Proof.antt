@@ -10,7 +10,7 @@ use mir.Syntax.{w64}
 use mir.Val.{toZ, ofZ}
 use mir.ValLaws.{toZ-ofZ}
 use borrow.Author.Tests.{eq-eqb, ne-eqb}
-use Rattle.rules.specs.Limits.{limits}
+use Rattle.rules.specs.Limits.{limits, shapedRings}
 use Rattle.rules.specs.Holes.{ringAt}
 use Rattle.ring_lists.specs.Shown.{HalfOf}
 use Rattle.holders.specs.Maps.{mapOf}
@@ -68,7 +68,7 @@ halved : (k : tie.After-shared-slice-known12 Inv-loop μ-loop) → let l = start
 halved k z = subst (λ n. HalfOf (getD (start (here k) .args .ring-area .now) n nan) z) (sym (k .before .wide .ensures))
 
 -- there is room for an open ring's record
-room : (f : tie.Then1 Inv-loop μ-loop) → here (f .before) .loop .k < limits .edges
+room : (f : tie.Then1 Inv-loop μ-loop) → here (f .before) .loop .k < shapedRings limits
 room f = let k = f .before in listed-room (start (here k) .pre .0 .3) (listed k) (more k) (eq-eqb _ 2 (tested k ∙ f .if1 .taken))
 
 slice-aggregate-holder-of : tie.Need-slice-aggregate-holder-of Inv-loop μ-loop

@@ -8,12 +8,12 @@ use lib.ListN.{length, take, drop}
 use Rattle.rules.specs.Limits.{limits}
 use Rattle.rules.specs.State.{State, roomy, sound}
 use Rattle.rules.specs.Ringing.{RingLists}
-use Rattle.tables.specs.Tables.{stateOf}
-use Rattle.tables.specs.Regions.{xsIn, ysIn, zsIn, segmentsIn, sourcesIn, targetsIn, starTableIn, degreesIn, nodeMarksIn, halfMarksIn, lineIdsIn, tracingsIn}
+use Rattle.tables.specs.Regions.{zsIn, segmentsIn, targetsIn, starTableIn, degreesIn, nodeMarksIn, halfMarksIn, lineIdsIn, tracingsIn}
 use Rattle.tables.proofs.Regions.{tail-is}
 use Rattle.stars.proofs.Sound.{sound-groupable}
 use Rattle.extracting.specs.Extraction.{listsOf, Extraction}
 use borrow.Author.Needs.{needs}
+use Rattle.ring_entry.proofs.Lending.{partsHeld}
 use Rattle.ring_entry.proofs.regions.extract_regions.Statement.{statement}
 use Rattle.ring_entry.proofs.regions.extract_regions.Tie as tie
 
@@ -47,12 +47,7 @@ entry c = c .before .before .before .before .before .before .before .before .bef
 
 -- the state with these line ids and marks of half-edges
 abbrev heldWith : tie.Start → List ℕ → List Bool → State
-heldWith k ids halves =
-    let floats = k .args .floats .now in
-    let numbers = k .args .numbers .now in
-    let stars = k .args .stars .now in
-    stateOf (k .args .graph) (xsIn limits floats) (ysIn limits floats) (zsIn limits floats) (degreesIn limits stars) (nodeMarksIn limits (k .args .marks .now))
-    (segmentsIn limits floats) (lineIdsIn limits ids) (sourcesIn limits numbers) (targetsIn limits numbers) halves (starTableIn limits stars) (tracingsIn limits numbers ids)
+heldWith k = partsHeld (k .args .graph) (k .args .floats .now) (k .args .numbers .now) (k .args .stars .now) (k .args .marks .now)
 
 group-stars-requires : tie.Need-group-stars-requires
 group-stars-requires c κs =

@@ -12,9 +12,9 @@ use Rattle.lists.proofs.Tests.{both}
 use Rattle.rules.specs.Cycles.{cycle}
 use Rattle.stars.specs.Groups.{unmarked}
 use Rattle.splitting.specs.Splits.{entryOf}
-use Rattle.rings.specs.Listing.{RingRows, rowsOf, rowPut, WalkedRing}
+use Rattle.rings.specs.Listing.{tableRings, RingRows, rowsOf, rowPut, WalkedRing}
 use Rattle.rings.proofs.Walking.{walked-same}
-use Rattle.rings.proofs.Rows.{Held, held-first, held-few, held-room, held-new, held-marked, held-has, held-all, held-keys}
+use Rattle.rings.proofs.Rows.{Held, held-first, held-few, held-room, held-row, held-new, held-marked, held-has, held-all, held-keys}
 use Rattle.rings.proofs.walk.walk_unseen.Statement.{statement}
 use Rattle.rings.proofs.walk.walk_unseen.Tie as tie
 
@@ -79,6 +79,14 @@ room c =
     held-room (s .args .edges) (s .args .next .now) (s .args .dir-edges-src .now) (s .args .dir-edges-marked .now) (s .args .nodes-x .now) (s .args .nodes-y .now) (s .args .seen .now) (s .args .half-edges .now) (s .args .keys .now) (lent s)
     (s .pre .0 .permutes) (q .seen) (q .half-edges) (q .keys) (rows (turn c)) (q .count) (q .at) (q .k) (below c) (q .inv .9) (live c) (fresh c)
 
+-- and for its row
+row : (c : tie.Then1 Inv-loop μ-loop) → let a = entry (turn c) .args in turn c .loop .count < length (tableRings (a .edges) (a .next .now) (a .dir-edges-marked .now))
+row c =
+    let s = entry (turn c) in
+    let q = turn c .loop in
+    held-row (s .args .edges) (s .args .next .now) (s .args .dir-edges-src .now) (s .args .dir-edges-marked .now) (s .args .nodes-x .now) (s .args .nodes-y .now) (s .args .seen .now) (s .args .half-edges .now) (s .args .keys .now) (lent s)
+    (s .pre .0 .permutes) (q .seen) (q .half-edges) (q .keys) (rows (turn c)) (q .count) (q .at) (q .k) (below c) (q .inv .9) (live c) (fresh c)
+
 loop-holds : tie.Need-loop-holds Inv-loop μ-loop
 loop-holds c =
     let s : tie.Start Inv-loop μ-loop = c .before .before .before .before .before .before .before .before .before .before .before .before in (
@@ -133,12 +141,12 @@ write-row-requires c κs =
     let d = begun (c .before .before .before .before .before .before .before .before .before .before) in
     let q = turn d .loop in
     let r = entry (turn d) .pre .0 .inRows in
-    let l = below d in
+    let l = row d in
     record {
-      inFirst = omega (arith, q .inv .8, q .inv .3, r .inFirst);
-      inSize = omega (arith, q .inv .8, q .inv .4, r .inSize);
-      inSide = omega (arith, q .inv .8, q .inv .5, r .inSide);
-      inArea = omega (arith, q .inv .8, q .inv .6, r .inArea);
+      inFirst = omega (arith, l, q .inv .3, r .inFirst);
+      inSize = omega (arith, l, q .inv .4, r .inSize);
+      inSide = omega (arith, l, q .inv .5, r .inSide);
+      inArea = omega (arith, l, q .inv .6, r .inArea);
     }
 
 add-count : tie.Need-add-count Inv-loop μ-loop
