@@ -38,7 +38,7 @@ extern "C" {
 /* x and y are whole numbers from minus this to this. */
 #define TUKMIHEB_COORDINATE_BOUND 1048576
 
-#define TUKMIHEB_STACK (320 * TUKMIHEB_EDGE_LIMIT)
+#define TUKMIHEB_STACK (128 * TUKMIHEB_EDGE_LIMIT)
 
 /* ---- where each table begins in its slice, and the least length of the slice */
 

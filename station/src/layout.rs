@@ -26,9 +26,9 @@ pub const HALF_EDGE_LIMIT: usize = 2 * EDGE_LIMIT;
 /// The floats of a segment: start x, y, z and end x, y, z.
 pub const SEGMENT_FLOATS: usize = 6;
 
-/// The stack, in bytes, that a thread should have for any call. It is no proved bound: in trials of every call on
-/// full tables ring extraction took most, 225 KiB with these limits, and this is two fifths more.
-pub const STACK: usize = 320 * EDGE_LIMIT;
+/// The stack, in bytes, that a thread should have for any call: 256 KiB with these limits. It is no proved bound. The frames
+/// of ring extraction, which needs most, add up to 212 KiB; every call was made on full tables with this.
+pub const STACK: usize = 128 * EDGE_LIMIT;
 
 // ---- floats: x, y and z of the nodes, then segments
 
