@@ -1,13 +1,14 @@
-//! Finds the static library's six archives beside this crate.
+//! Finds the static library's seven archives beside this crate.
 
 use std::path::Path;
 
 /// The archives, by what their entries are for.
-const ARCHIVES: [&str; 6] = [
+const ARCHIVES: [&str; 7] = [
     "station_building",
     "station_files",
     "station_ring_files",
     "station_steps",
+    "station_cuts",
     "station_rings",
     "station_questions",
 ];

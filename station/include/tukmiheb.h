@@ -1,9 +1,9 @@
 /*
- * The tissue map graph for C: the entries of the six archives that `rt staticlib` makes,
+ * The tissue map graph for C: the entries of the seven archives that `rt staticlib` makes,
  *
  *     cc -I station/include program.c -L target/staticlib \
- *         -lstation_building -lstation_files -lstation_ring_files -lstation_steps -lstation_rings \
- *         -lstation_questions
+ *         -lstation_building -lstation_files -lstation_ring_files -lstation_steps -lstation_cuts \
+ *         -lstation_rings -lstation_questions
  *
  * station/c/list.c is a whole program. docs/ARCHITECTURE.md says what the tables hold, what each stage
  * allows, and what every number means.
@@ -182,14 +182,6 @@ uint32_t tukmiheb_add_records(uint16_t state[TUKMIHEB_STATE_LENGTH], const uint8
                               uint32_t *ids, size_t ids_length,
                               uint64_t reply[TUKMIHEB_FILE_LENGTH]);
 
-/*
- * Reads the record at a place. At the end only the reply's first number is written, and `line` for a segment
- * alone. Refusals: 9, 10, 11.
- */
-uint32_t tukmiheb_read_record(const uint8_t *bytes, size_t bytes_length, size_t at,
-                              double line[TUKMIHEB_SEGMENT_FLOATS],
-                              uint64_t reply[TUKMIHEB_RECORD_LENGTH]);
-
 /* ---- station_ring_files */
 
 /*
@@ -223,6 +215,14 @@ uint32_t tukmiheb_sort_edges(uint16_t state[TUKMIHEB_STATE_LENGTH], const double
                              const uint8_t *marks, size_t marks_length, const uint32_t *ids,
                              size_t ids_length);
 
+/* Any stage to 0. Refusals: 6, 7. */
+uint32_t tukmiheb_reset(uint16_t state[TUKMIHEB_STATE_LENGTH], const double *floats,
+                        size_t floats_length, const uint16_t *numbers, size_t numbers_length,
+                        uint16_t *stars, size_t stars_length, uint8_t *marks, size_t marks_length,
+                        const uint32_t *ids, size_t ids_length);
+
+/* ---- station_cuts */
+
 /* Stage 1 to 2; `dangles` needs an entry for each edge. Refusals: 6, 7, 5, 8. */
 uint32_t tukmiheb_prune_dangles(uint16_t state[TUKMIHEB_STATE_LENGTH], const double *floats,
                                 size_t floats_length, const uint16_t *numbers,
@@ -238,12 +238,6 @@ uint32_t tukmiheb_delete_cut_edges(uint16_t state[TUKMIHEB_STATE_LENGTH], const 
                                    size_t stars_length, uint8_t *marks, size_t marks_length,
                                    const uint32_t *ids, size_t ids_length, uint16_t *cuts,
                                    size_t cuts_length, uint16_t reply[TUKMIHEB_CENSUS_LENGTH]);
-
-/* Any stage to 0. Refusals: 6, 7. */
-uint32_t tukmiheb_reset(uint16_t state[TUKMIHEB_STATE_LENGTH], const double *floats,
-                        size_t floats_length, const uint16_t *numbers, size_t numbers_length,
-                        uint16_t *stars, size_t stars_length, uint8_t *marks, size_t marks_length,
-                        const uint32_t *ids, size_t ids_length);
 
 /* ---- station_rings */
 
@@ -271,6 +265,14 @@ uint32_t tukmiheb_compare_angular(double cx, double cy, double ax, double ay, do
 uint32_t tukmiheb_minimum_rotation_index(const uint64_t *xs, size_t xs_length, const uint64_t *ys,
                                          size_t ys_length,
                                          size_t reply[TUKMIHEB_ROTATION_LENGTH]);
+
+/*
+ * Reads the record at a place. At the end only the reply's first number is written, and `line` for a segment
+ * alone. Refusals: 9, 10, 11.
+ */
+uint32_t tukmiheb_read_record(const uint8_t *bytes, size_t bytes_length, size_t at,
+                              double line[TUKMIHEB_SEGMENT_FLOATS],
+                              uint64_t reply[TUKMIHEB_RECORD_LENGTH]);
 
 #ifdef __cplusplus
 }

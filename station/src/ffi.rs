@@ -61,16 +61,6 @@ graph_entry!(
     (reply: *mut [u64; FILE_LENGTH])
 );
 
-extern "C" {
-    pub fn tukmiheb_read_record(
-        bytes: *const u8,
-        bytes_length: usize,
-        at: usize,
-        line: *mut [f64; SEGMENT_FLOATS],
-        reply: *mut [u64; RECORD_LENGTH],
-    ) -> u32;
-}
-
 // ---- station_ring_files
 
 extern "C" {
@@ -115,6 +105,14 @@ graph_entry!(
     ()
 );
 graph_entry!(
+    tukmiheb_reset(),
+    const floats, const numbers, mut stars, mut marks, const ids,
+    ()
+);
+
+// ---- station_cuts
+
+graph_entry!(
     tukmiheb_prune_dangles(),
     const floats, const numbers, mut stars, mut marks, const ids,
     (dangles: *mut u16, dangles_length: usize, reply: *mut [u16; COUNT_LENGTH])
@@ -123,11 +121,6 @@ graph_entry!(
     tukmiheb_delete_cut_edges(),
     const floats, const numbers, const stars, mut marks, const ids,
     (cuts: *mut u16, cuts_length: usize, reply: *mut [u16; CENSUS_LENGTH])
-);
-graph_entry!(
-    tukmiheb_reset(),
-    const floats, const numbers, mut stars, mut marks, const ids,
-    ()
 );
 
 // ---- station_rings
@@ -171,5 +164,13 @@ extern "C" {
         ys: *const u64,
         ys_length: usize,
         reply: *mut [usize; ROTATION_LENGTH],
+    ) -> u32;
+
+    pub fn tukmiheb_read_record(
+        bytes: *const u8,
+        bytes_length: usize,
+        at: usize,
+        line: *mut [f64; SEGMENT_FLOATS],
+        reply: *mut [u64; RECORD_LENGTH],
     ) -> u32;
 }

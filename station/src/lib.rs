@@ -2,13 +2,14 @@
 //!
 //! The work is done by a static library that is proved to do what its definitions say, on every
 //! input. This crate lends it tables, numbers and byte slices and hands out what comes back. Build
-//! the library's six archives first, in the root of the repository:
+//! the library's seven archives first, in the root of the repository:
 //!
 //! ```text
 //! rt staticlib station_building
 //! rt staticlib station_files
 //! rt staticlib station_ring_files
 //! rt staticlib station_steps
+//! rt staticlib station_cuts
 //! rt staticlib station_rings
 //! rt staticlib station_questions
 //! ```

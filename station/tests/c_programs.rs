@@ -13,11 +13,12 @@ use tukmiheb::entries::{
 };
 use tukmiheb::{layout, Refusal, Stage};
 
-const ARCHIVES: [&str; 6] = [
+const ARCHIVES: [&str; 7] = [
     "building",
     "files",
     "ring_files",
     "steps",
+    "cuts",
     "rings",
     "questions",
 ];

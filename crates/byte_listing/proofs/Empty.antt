@@ -7,8 +7,8 @@ use Rattle.rules.specs.State.{State, roomy}
 use Rattle.tables.specs.Regions.{stateIn, leastFloats, leastNumbers, leastStars, leastMarks, leastIds}
 use Rattle.tables.specs.declared.PlanarGraph.{PlanarGraph}
 use Rattle.adding.specs.Outcomes.{Ready}
-use Rattle.intake.proofs.Left.{created-ready}
-use Rattle.byte_listing.specs.File.{zero, emptyGraph}
+use Rattle.taking.proofs.Left.{created-ready}
+use Rattle.taken_text.specs.File.{zero, emptyGraph}
 
 -- counts over slices of zeros
 abbrev pub blank : PlanarGraph → State

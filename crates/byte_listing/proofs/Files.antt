@@ -10,7 +10,7 @@ use Rattle.geometry.specs.Reply.{success}
 use Rattle.rules.specs.Limits.{limits}
 use Rattle.rules.specs.State.{State}
 use Rattle.adding.specs.Outcomes.{Ready}
-use Rattle.listing_steps.specs.Rooms.{listingRoom}
+use Rattle.ring_lines.specs.Rooms.{listingRoom}
 use Rattle.listing_steps.specs.Due.{Due}
 use Rattle.lists.specs.Buffer.{Put}
 use Rattle.byte_listing.specs.Clause.{writtenIf}

@@ -1,4 +1,3 @@
--- Laws over the definitions: a new graph over slices of zeros, a file that is taken to its end, and how far a text in a buffer reaches.
+-- Laws over the definitions: a new graph over slices of zeros, and a file that is taken to its end.
 pub mod Empty
 pub mod Files
-pub mod Texts

@@ -10,8 +10,8 @@ use Rattle.geometry.specs.Reply.{Reply, refused, success}
 use Rattle.rules.specs.Limits.{limits}
 use Rattle.tables.specs.Refusals.{refusalNumber}
 use Rattle.lists.specs.Buffer.{written}
-use Rattle.listing_steps.specs.Rooms.{listingRoom}
-use Rattle.byte_listing.specs.File.{fileText}
+use Rattle.ring_lines.specs.Rooms.{listingRoom}
+use Rattle.taken_text.specs.File.{fileText}
 use Rattle.byte_listing.specs.declared.Listed.{Listed}
 use Rattle.byte_listing.specs.declared.Listed.the-variants.{Text, Refused}
 

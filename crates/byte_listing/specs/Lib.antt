@@ -1,4 +1,2 @@
--- What is printed for a segment file, and what listing one that is held in memory ensures. Read in this order.
-pub mod File
+-- What listing a segment file that is held in memory ensures.
 pub mod Clause
-pub mod Worked

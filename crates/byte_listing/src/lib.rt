@@ -1,13 +1,6 @@
-// The listing of a segment file that is held in memory, and the text of what was taken from a file.
+// The listing of a segment file that is held in memory.
 ghost use mathlib.Core.Path.{_≡_};
-ghost use Rattle.rules.specs.Limits.{limits};
-ghost use Rattle.tables.specs.Regions.{stateIn};
-ghost use Rattle.intake.specs.Answers.{replyOf};
-ghost use Rattle.lists.specs.Buffer.{Put};
-ghost use Rattle.listing_steps.specs.Due.{Due};
-ghost use Rattle.byte_listing.specs.File.{textOf};
 ghost use Rattle.byte_listing.specs.Clause.{listedReply, ListsBytes};
-use intake::TakeReply;
 use listing_steps::LISTING_ROOM;
 use tables::FLOATS;
 use tables::IDS;
@@ -16,6 +9,7 @@ use tables::NUMBERS;
 use tables::PlanarGraph;
 use tables::Refusal;
 use tables::STARS;
+use taken_text::put_taken;
 
 // What is answered: how many bytes the text has, or the refusal of a buffer that is too short.
 pub enum Listed {
@@ -32,39 +26,6 @@ pub fn empty_graph() -> PlanarGraph
         node_count: 0,
         edge_count: 0,
         stage: 0,
-    }
-}
-
-// The text of what was taken, at the front of `out`: the line of the refusal that record `records` met,
-// or the listing of the graph. Answers how many bytes it has.
-pub fn put_taken(
-    graph: PlanarGraph,
-    records: u64,
-    reply: TakeReply,
-    floats: &[f64],
-    numbers: &[u16],
-    stars: &mut [u16],
-    marks: &mut [bool],
-    ids: &[u32],
-    out: &mut [u8],
-) -> usize
-    requires { ⌜ Due 0 (stateIn limits graph (now floats) (now numbers) (now stars) (now marks) (now ids)) (now out) ⌝ }
-    ensures { λ r. ⌜ Put 0 (textOf (replyOf reply) records (stateIn limits graph (now (floats .entry)) (now (numbers .entry)) (now (stars .entry)) (now (marks .entry)) (now (ids .entry)))) (now (out .entry)) (now (out .exit)) r ⌝ }
-{
-    match reply {
-        TakeReply::Done => listing_steps::put_listing(
-            graph,
-            floats,
-            numbers,
-            stars,
-            marks,
-            ids,
-            out,
-        ),
-        TakeReply::Refused(number) => {
-            let shown = number as u64;
-            listing_text::put_refusal(out, 0, shown, records)
-        }
     }
 }
 

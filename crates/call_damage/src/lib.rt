@@ -1,6 +1,5 @@
 // Setting an entry of a state table to a number that the call list gives. Each function but the last
 // answers whether the place and the number are the table's.
-ghost use mathlib.Core.Path.{_≡_};
 use call_list::Number;
 use call_replies::say;
 use tables::DEGREES;

@@ -1,5 +1,6 @@
 // One call of a public entry, and its reply in one form for all of them. The extraction of rings, which is
 // lent the most lists, is in call_rings.
+use adding::AddReply;
 use call_lending::Settings;
 use call_lending::first_numbers;
 use call_lending::lend_floats;
@@ -15,13 +16,12 @@ use call_lending::share_stars;
 use call_list::GraphCall;
 use call_replies::Outcome;
 use call_replies::Reply;
-use planar_graph::AddReply;
-use planar_graph::Created;
-use planar_graph::CutReply;
-use planar_graph::Line3D;
-use planar_graph::PruneReply;
-use planar_graph::Refusal;
-use planar_graph::StepReply;
+use calls::StepReply;
+use create_entry::Created;
+use cut_entry::CutReply;
+use geometry::Line3D;
+use prune_entry::PruneReply;
+use tables::Refusal;
 
 // A refusal's number.
 fn refused(why: Refusal) -> Reply {
@@ -39,7 +39,7 @@ fn create(
 ) -> Outcome {
     let graph = settings.graph;
     let short = settings.short;
-    let done = planar_graph::create(
+    let done = create_entry::create(
         share_floats(floats, short),
         share_numbers(numbers, short),
         share_stars(stars, short),
@@ -69,7 +69,7 @@ fn add(
 ) -> Outcome {
     let graph = settings.graph;
     let short = settings.short;
-    let done = planar_graph::add_line(
+    let done = add_entry::add_line(
         graph,
         line,
         lend_floats(floats, short),
@@ -106,7 +106,7 @@ fn sort(
 ) -> Outcome {
     let graph = settings.graph;
     let short = settings.short;
-    let done = planar_graph::sort_edges(
+    let done = sort_entry::sort_edges(
         graph,
         share_floats(floats, short),
         share_numbers(numbers, short),
@@ -140,7 +140,7 @@ fn prune(
     let graph = settings.graph;
     let short = settings.short;
     let length = settings.length;
-    let done = planar_graph::prune_dangles(
+    let done = prune_entry::prune_dangles(
         graph,
         share_floats(floats, short),
         share_numbers(numbers, short),
@@ -175,7 +175,7 @@ fn cut(
     let graph = settings.graph;
     let short = settings.short;
     let length = settings.length;
-    let done = planar_graph::delete_cut_edges(
+    let done = cut_entry::delete_cut_edges(
         graph,
         share_floats(floats, short),
         share_numbers(numbers, short),
@@ -208,7 +208,7 @@ fn reset(
 ) -> Outcome {
     let graph = settings.graph;
     let short = settings.short;
-    let done = planar_graph::reset(
+    let done = reset_entry::reset(
         graph,
         share_floats(floats, short),
         share_numbers(numbers, short),

@@ -1,5 +1,4 @@
 // Lines: the call that each one is.
-ghost use mathlib.Core.Path.{_≡_};
 ghost use Prim.Native.Nat.{_<_, _≤_};
 ghost use lib.ListN.{length};
 use crate::Call;

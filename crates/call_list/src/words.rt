@@ -1,6 +1,5 @@
 // The words of a line, one after another. A word is found by the space before it, so that a line has
 // been read whole exactly where its last word stops at its end.
-ghost use mathlib.Core.Path.{_≡_};
 ghost use Prim.Native.Nat.{_<_, _≤_};
 ghost use lib.ListN.{length};
 use crate::numbers::Number;

@@ -1,6 +1,4 @@
 -- the tests of a call, one after another
--- number 7 of both lists
-pub mod BothLists
 pub mod Shells
 -- the numbers that the tests answer
 pub mod Numbers

@@ -5,7 +5,7 @@ ghost use Rattle.rules.specs.Limits.{limits};
 ghost use Rattle.tables.specs.Regions.{stateIn};
 ghost use Rattle.calls.specs.Checks.{soundCheck, stageCheck};
 use crate::room::has_room;
-use crate::soundness::is_sound;
+use soundness::is_sound;
 use tables::PlanarGraph;
 use tables::Refusal;
 

@@ -2,7 +2,6 @@
 // and the answer of those that reply success alone.
 mod checks;
 mod room;
-mod soundness;
 
 pub use checks::Checked;
 pub use checks::check_sound;

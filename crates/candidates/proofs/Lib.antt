@@ -1,5 +1,3 @@
--- Laws of the numbers of candidates, of listing the enclosed rings, of their order, and of passing by many at once.
+-- Laws of the numbers of candidates, and of listing the enclosed rings.
 pub mod Numbers
 pub mod Listing
-pub mod Ordering
-pub mod Passes

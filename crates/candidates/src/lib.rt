@@ -6,20 +6,18 @@ ghost use Rattle.corners.specs.Boxes.{Outermost};
 ghost use Rattle.candidates.specs.Candidates.{nodesAt, Standing, Writable, Written, Candidates, Listable};
 
 mod boxes;
-mod order;
-mod passing;
 
 use crate::boxes::put_numbers;
+pub use boxes::AREA;
 pub use boxes::CANDIDATE_NUMBERS;
+pub use boxes::HIGH_X;
+pub use boxes::LOW_X;
+pub use boxes::NUMBERS;
 pub use boxes::doubled_of;
 pub use boxes::in_box;
+pub use boxes::low_x_of;
 use corners::Sides;
 use corners::sides_of;
-pub use order::order_by_start;
-pub use order::place_for;
-pub use passing::next_end;
-pub use passing::rest_is_larger;
-pub use passing::write_passing;
 use ring_lists::ENCLOSED;
 use ring_lists::doubled_area;
 use tables::wide;

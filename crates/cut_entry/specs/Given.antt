@@ -10,7 +10,7 @@ use Rattle.rules.specs.State.{arrangementIn}
 use Rattle.tables.specs.Regions.{xsIn, ysIn, sourcesIn, starTableIn, halfMarksIn}
 use Rattle.tables.specs.declared.PlanarGraph.{PlanarGraph}
 use Rattle.stars.specs.Grouped.{Groupable}
-use Rattle.pieces.specs.Seeds.{Placed}
+use Rattle.seeds.specs.Seeds.{Placed}
 
 -- the half-edges that the slices hold
 abbrev pub arrangedIn : Limits → PlanarGraph → List ℕ → List ℕ → List Bool → Arrangement

@@ -14,7 +14,7 @@ use Rattle.lists.proofs.Members.{below-in}
 use Rattle.rules.specs.Stages.{markEdges}
 use Rattle.stars.specs.Groups.{unmarked}
 use Rattle.cycles.specs.Cuts.{cutBy, cutsBy}
-use Rattle.cycles.proofs.Entries.{over-set}
+use Rattle.ring_labels.proofs.Entries.{over-set}
 
 -- ---- the test of an edge
 

@@ -1,9 +1,3 @@
--- entries
-pub mod Entries
--- links
-pub mod Linking
--- labels
-pub mod Labelling
 -- cut edges
 pub mod Cutting
 -- Euler's formula

@@ -18,7 +18,7 @@ use Rattle.rules.proofs.LabelLaws.{label-inactive}
 use Rattle.rules.proofs.Rings.{label-is, maximal-rings-are, successor-permutes}
 use Rattle.rules.proofs.Counting.{cut-is, cuts-are}
 use Rattle.stars.specs.Groups.{unmarked}
-use Rattle.cycles.specs.Labels.{entryOf, Labelled}
+use Rattle.ring_labels.specs.Labels.{entryOf, Labelled}
 use Rattle.cycles.specs.Cuts.{cutBy, cutsBy}
 
 -- V, its parts shut

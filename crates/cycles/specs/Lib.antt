@@ -1,6 +1,4 @@
--- What links, labels, cuts and the census write.
-pub mod Links
-pub mod Labels
+-- What cuts and the census write.
 pub mod Cuts
 pub mod Census
 pub mod Arranged

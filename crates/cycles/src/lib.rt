@@ -1,18 +1,13 @@
-// The cycles of an arrangement of half-edges: links and successors, maximal rings and their labels,
-// cut edges, and Euler's census. Carried over from planar_graph.rs.
+// Cut edges, and Euler's census of the cycles of an arrangement. Carried over from planar_graph.rs.
 mod cuts;
 mod euler;
-mod labels;
-mod links;
 
 pub use euler::count_census;
-pub use labels::label_rings;
-pub use links::link_successors;
 ghost use Prim.Native.Nat.{_≤_};
 ghost use lib.ListN.{length};
 ghost use Rattle.rules.specs.Limits.{limits};
 ghost use Rattle.stars.specs.Groups.{InEach};
-ghost use Rattle.pieces.specs.Seeds.{Placed};
+ghost use Rattle.seeds.specs.Seeds.{Placed};
 ghost use Rattle.cycles.specs.Arranged.{Arranged, CutOf};
 use tables::MAX_HALF_EDGES;
 use tables::PlanarGraph;
@@ -51,8 +46,8 @@ pub fn cut_grouped(
 {
     let mut next = [0u16; MAX_HALF_EDGES];
     let mut labels = [0u16; MAX_HALF_EDGES];
-    links::link_successors(graph, offsets, grouped, dir_edges_marked, &mut next);
-    let cycles = labels::label_rings(graph.edge_count, &next, dir_edges_marked, &mut labels);
+    ring_labels::link_successors(graph, offsets, grouped, dir_edges_marked, &mut next);
+    let cycles = ring_labels::label_rings(graph.edge_count, &next, dir_edges_marked, &mut labels);
     let census = euler::count_census(
         graph,
         nodes_x,

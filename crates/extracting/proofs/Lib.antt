@@ -3,7 +3,5 @@ pub mod Starts
 pub mod Numbering
 pub mod Outcome
 pub mod Arranging
-pub mod Walks
 pub mod Pairs
 pub mod FacesApart
-pub mod Tallying

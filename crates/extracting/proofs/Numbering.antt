@@ -24,14 +24,14 @@ use Rattle.rules.proofs.Counting.{minimal-few}
 use Rattle.rules.proofs.Claims.{halved, each-at}
 use Rattle.rules.proofs.Replies.{rings-of-halves}
 use Rattle.rules.proofs.NamingSteps.{naming-few}
-use Rattle.rings.specs.Keys.{bitsFrom, keysY, Keyed}
+use Rattle.ring_tally.specs.Keys.{bitsFrom, keysY, Keyed}
 use Rattle.rings.specs.Listing.{RingRows, Listed, ringAt}
 use Rattle.rings.proofs.Bounds.{side-half, areas-small}
 use Rattle.rings.proofs.Meaning.{area-at, ends-within, rows-within, ring-read, rings-read, sides-exact}
-use Rattle.faces.specs.Listed.{HalfOf}
+use Rattle.ring_keys.specs.Listed.{HalfOf}
 use Rattle.faces.specs.Numbers.{ringAt as ringFrom, ringsAt, faceNumbers, origins, rowsAt, comparisonsAt, Numberable}
 use Rattle.faces.proofs.Filled.{ring-of-state}
-use Rattle.extracting.specs.Listing.{keysXOf, keysYOf}
+use Rattle.ring_listing.specs.Listing.{keysXOf, keysYOf}
 use Rattle.extracting.proofs.Starts.{rings-inside, rings-fit, ring-some, begins-apart}
 
 -- ---- the keys out of the two halves of a list

@@ -14,7 +14,7 @@ use Rattle.rules.specs.Sane.{Sane}
 use Rattle.rules.proofs.CycleLaws.{cycle-is, cycle-self}
 use Rattle.rules.proofs.Partition.{true-start, beyond-never, total-length}
 use Rattle.rules.proofs.Rings.{minimal-rings-are, split-permutes}
-use Rattle.faces.proofs.Rows.{map-at}
+use Rattle.ring_keys.proofs.Rows.{map-at}
 
 -- a list with a member is not empty
 in-some : (x : ℕ) (l : List ℕ) → In x l → 0 < length l

@@ -1,5 +1,3 @@
--- What listing the rings and the whole of ring extraction ask and leave.
-pub mod Listing
+-- What ring extraction asks and leaves.
 pub mod Extraction
 pub mod Sides
-pub mod Tallying

@@ -12,7 +12,7 @@ use Rattle.rules.specs.Limits.{limits}
 use Rattle.rules.specs.State.{State, arrangementIn}
 use Rattle.rules.specs.Ringing.{ringsOf, sideNumber}
 use Rattle.cycles.specs.Arranged.{Arranged}
-use Rattle.rings.specs.Sides.{numberIn}
+use Rattle.ring_tally.specs.Sides.{numberIn}
 use Rattle.extracting.specs.Extraction.{repliesOf}
 
 -- what it asks of the tables: they are an arrangement, and have no more rings than there may be edges

@@ -1,17 +1,14 @@
 // Ring extraction over grouped stars: the rings are listed with their keys, sides and areas, then
 // their face numbers are written. Carried over from planar_graph.rs.
-mod listing;
 mod naming;
 mod sides;
-mod successors;
 
-pub use listing::RingCount;
-pub use listing::list_rings;
 pub use sides::list_sides;
 ghost use Rattle.rules.specs.Limits.{limits};
 ghost use Rattle.extracting.specs.Extraction.{listsOf, Extractable, Extracts};
 use naming::name_rings;
-use rings::KEYS;
+use ring_listing::list_rings;
+use ring_tally::KEYS;
 use tables::PlanarGraph;
 
 // What ring extraction answers: the graph in its last stage, how many rings there are, the census

@@ -6,10 +6,10 @@ ghost use lib.ListN.{length};
 ghost use lib.Ieee.{Float};
 ghost use Rattle.lists.specs.Lists.{over};
 ghost use Rattle.rules.specs.Limits.{limits};
-ghost use Rattle.rings.specs.Keys.{keysY};
+ghost use Rattle.ring_tally.specs.Keys.{keysY};
 ghost use Rattle.faces.specs.Numbers.{ringsAt, faceNumbers, comparisonsAt, Numberable, Nameable};
-ghost use Rattle.extracting.specs.Listing.{keysXOf, keysYOf};
-use rings::KEYS_Y;
+ghost use Rattle.ring_listing.specs.Listing.{keysXOf, keysYOf};
+use ring_tally::KEYS_Y;
 
 // The keys are parts of a lent list, since no part of a local array is lent.
 pub fn name_rings(

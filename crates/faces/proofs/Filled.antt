@@ -20,13 +20,13 @@ use Rattle.rules.specs.Naming.{namingComparisons}
 use Rattle.rules.specs.Keys.{keyOf}
 use Rattle.rules.specs.Limits.{Limits}
 use Rattle.rules.specs.State.{State, arrangement, pointOf, nodeKey, pointIn, keyIn}
-use Rattle.faces.specs.Listed.{partOf, HalfOf, Listed, listed, ringIn, Stands, AllStand}
-use Rattle.rings.specs.Keys.{bitsFrom}
-use Rattle.faces.specs.Keys.{turnOf, stepsOf}
+use Rattle.ring_keys.specs.Listed.{partOf, HalfOf, Listed, listed, ringIn, Stands, AllStand}
+use Rattle.ring_tally.specs.Keys.{bitsFrom}
+use Rattle.ring_keys.specs.Keys.{turnOf, stepsOf}
 use Rattle.faces.specs.Order.{before, inOrder}
 use Rattle.faces.specs.Numbers.{indexOf, origins, ringAt, ringsAt, faceNumbers, comparisonsAt, Numberable}
-use Rattle.faces.proofs.Rows.{map-at, map-upto-at}
-use Rattle.faces.proofs.KeyLists.{length-part, keys-part}
+use Rattle.ring_keys.proofs.Rows.{map-at, map-upto-at}
+use Rattle.ring_keys.proofs.KeyLists.{length-part, keys-part}
 use Rattle.faces.proofs.Places.{index-sorted, upto-below}
 use Rattle.faces.proofs.Rings.{doubled-half, before-order}
 

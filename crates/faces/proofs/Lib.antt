@@ -1,6 +1,4 @@
--- Laws of keys in lists, of the order of rings, of places in a row in order, and of face numbers.
-pub mod Rows
-pub mod KeyLists
+-- Laws of the order of rings, of places in a row in order, and of face numbers.
 pub mod Rankings
 pub mod FacesApart
 pub mod Places

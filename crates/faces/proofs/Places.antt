@@ -14,7 +14,7 @@ use Rattle.lists.proofs.Members.{in-other, pick-yes, pick-no, pick-none, in-at,
 use Rattle.lists.proofs.Sums.{length-same}
 use Rattle.lists.proofs.Sorting.{Only, Order, Ordered, count-sorted, sorted-ordered}
 use Rattle.faces.specs.Numbers.{indexOf, Once}
-use Rattle.faces.proofs.Rows.{map-upto-at}
+use Rattle.ring_keys.proofs.Rows.{map-upto-at}
 
 -- ---- the place of a member
 

@@ -13,7 +13,7 @@ use Rattle.rotation.proofs.Keys.{keys-transitive}
 use Rattle.rules.specs.Face.{Ring, faceBefore}
 use Rattle.rules.specs.Pieces.{thenBy}
 use Rattle.rules.proofs.Orders.{Order, order-nat, order-int, order-by, order-then}
-use Rattle.faces.proofs.KeyLists.{keys-asymmetric, keys-level}
+use Rattle.ring_keys.proofs.KeyLists.{keys-asymmetric, keys-level}
 
 -- lists of keys stand in an order
 order-keys : Order keysBefore

@@ -11,8 +11,8 @@ use Rattle.geometry.specs.Coordinate.{value}
 use Rattle.rules.specs.Face.{doubledArea, ringOf, faceNumber}
 use Rattle.rules.specs.Keys.{keyOf}
 use Rattle.rules.specs.Limits.{limits}
-use Rattle.rings.specs.Keys.{bitsFrom}
-use Rattle.faces.specs.Listed.{halfOf, HalfOf}
+use Rattle.ring_tally.specs.Keys.{bitsFrom}
+use Rattle.ring_keys.specs.Listed.{halfOf, HalfOf}
 use Rattle.faces.specs.Numbers.{ringAt, ringsAt, faceNumbers, Numberable}
 
 -- half-edges of (0,0)-(4,0), (4,0)-(0,3), (0,3)-(0,0), ring by ring

@@ -1,5 +1,3 @@
--- Rings as they stand in lists, their order, and their face numbers.
-pub mod Listed
+-- The order of rings in lists, and their face numbers.
 pub mod Order
-pub mod Keys
 pub mod Numbers

@@ -12,8 +12,8 @@ use Rattle.rules.specs.Face.{Ring, ringOf, faceNumber}
 use Rattle.rules.specs.Naming.{namingComparisons}
 use Rattle.rules.specs.Limits.{Limits}
 use Rattle.rules.specs.State.{arrangementIn, pointIn, keyIn}
-use Rattle.rings.specs.Keys.{bitsFrom}
-use Rattle.faces.specs.Listed.{partOf, HalfOf}
+use Rattle.ring_tally.specs.Keys.{bitsFrom}
+use Rattle.ring_keys.specs.Listed.{partOf, HalfOf}
 
 -- the place where x stands first
 abbrev pub indexOf : ℕ → List ℕ → ℕ

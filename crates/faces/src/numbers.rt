@@ -7,8 +7,8 @@ ghost use lib.Ieee.{Float};
 ghost use Rattle.lists.specs.Lists.{upto, over};
 ghost use Rattle.rules.specs.Limits.{limits};
 ghost use Rattle.faces.specs.Numbers.{indexOf, Once, ringsAt, faceNumbers, comparisonsAt, Numberable, Nameable};
-use crate::keys::write_turns;
 use crate::order::sort_rings;
+use ring_keys::write_turns;
 use tables::MAX_HALF_EDGES;
 use tables::wide;
 

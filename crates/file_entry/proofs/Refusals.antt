@@ -5,7 +5,7 @@ use mathlib.Core.List.{List}
 use Rattle.rules.specs.Limits.{Limits}
 use Rattle.rules.specs.State.{State}
 use Rattle.calls.proofs.Refusals.{Keeps, success-keeps, step-keeps}
-use Rattle.file_entry.specs.FileAdding.{addRecords}
+use Rattle.file_taking.specs.FileAdding.{addRecords}
 
 pub records-keeps : (l : Limits) (bytes : List ℕ) (s : State) → Keeps s (record {}) (addRecords l bytes s)
 unfolding addRecords

@@ -8,8 +8,8 @@ use Rattle.tables.specs.declared.Refusal.{Refusal}
 use Rattle.calls.specs.Checks.{stageCheck}
 use Rattle.calls.specs.declared.checks.Checked.the-variants.{Refused}
 use Rattle.calls.proofs.Shells.{turnedDown, Good, step-stops, step-passes}
-use Rattle.intake.specs.Taking.{takeFile}
-use Rattle.file_entry.specs.FileAdding.{recordsTaken, addRecords}
+use Rattle.taking.specs.Taking.{takeFile}
+use Rattle.file_taking.specs.FileAdding.{recordsTaken, addRecords}
 
 module _ (l : Limits) (bytes : List ℕ) (s : State) where
   pub records-stop : (why : Refusal) → Refused why ≡ stageCheck l 0 s → turnedDown why s (record {}) ≡ addRecords l bytes s

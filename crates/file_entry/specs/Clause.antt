@@ -7,7 +7,7 @@ use Rattle.geometry.specs.Reply.{Reply}
 use Rattle.rules.specs.Limits.{limits}
 use Rattle.rules.specs.State.{State}
 use Rattle.calls.specs.Replies.{left}
-use Rattle.file_entry.specs.FileAdding.{Records, addRecords}
+use Rattle.file_taking.specs.FileAdding.{Records, addRecords}
 
 -- adding the records of a file, given by its bytes
 abbrev pub AddsRecords : List ℕ → State → Reply Records → State → Type 0

@@ -1,5 +1,2 @@
--- Adding the records of a segment file, by the rules and by the code's answers. Read in this order.
-pub mod FileAdding
+-- What adding the records of a segment file ensures.
 pub mod Clause
-pub mod Replies
-pub mod Worked

@@ -6,7 +6,7 @@ use native.Mathlib.Omega.{arith}
 use native.Mathlib.Nat.{pow-suc}
 use lib.ListN.{length, getD, take, drop, length-drop}
 use lib.Seq.{drop-cons, take-add, take-take, drop-drop, length-take-le}
-use Rattle.rules.specs.Records.{littleEndian, field}
+use Rattle.file_rules.specs.Records.{littleEndian, field}
 
 -- the bytes that follow n others count 256 ^ n times
 in-row : (xs ys : List ℕ) → littleEndian (xs ++ ys) ≡ littleEndian xs + 256 ^ length xs * littleEndian ys

@@ -8,7 +8,7 @@ use lib.Dec.{ltb}
 use lib.ListN.{length, take, drop}
 use lib.Seq.{drop-drop}
 use Rattle.lists.proofs.Tests.{or-right}
-use Rattle.rules.specs.Records.{taken, wrong, end, littleEndian, field, wholeFrame, frame}
+use Rattle.file_rules.specs.Records.{taken, wrong, end, littleEndian, field, wholeFrame, frame}
 
 -- ---- a whole record, by its length and kind
 

@@ -11,7 +11,7 @@ use lib.Seq.{take-append-le, drop-append-le}
 use Rattle.geometry.specs.Reply.{Reply, refused, success}
 use Rattle.lists.proofs.Counts.{by-lt}
 use Rattle.lists.proofs.Tests.{neither}
-use Rattle.rules.specs.Records.{Found, taken, passed, wrong, end, littleEndian, field, pickFound, cutShort, wrongLength, knownKind, wholeFrame, frame, told, byKind, readNext}
+use Rattle.file_rules.specs.Records.{Found, taken, passed, wrong, end, littleEndian, field, pickFound, cutShort, wrongLength, knownKind, wholeFrame, frame, told, byKind, readNext}
 use Rattle.frames.proofs.Cases.{whole-none, frame-whole}
 
 -- ---- a record is there to its end

@@ -1,6 +1,6 @@
 -- What each case of a frame says.
 use Prim.Native.Nat.{ℕ, _≤_}
-use Rattle.rules.specs.Records.{Found, taken, wrong, end}
+use Rattle.file_rules.specs.Records.{Found, taken, wrong, end}
 use Rattle.frames.specs.declared.FileRefusal.{FileRefusal}
 use Rattle.frames.specs.declared.FileRefusal.the-variants.{Short, Length, Kind}
 use Rattle.frames.specs.declared.Frame.{Frame}

@@ -3,7 +3,7 @@ use mathlib.Core.Path.{_≡_, refl}
 use mathlib.Core.List.{List, [], _∷_}
 use Prim.Native.Nat.{ℕ}
 use lib.ListN.{replicate}
-use Rattle.rules.specs.Records.{Found, taken, wrong, end, frame}
+use Rattle.file_rules.specs.Records.{Found, taken, wrong, end, frame}
 
 -- bytes that begin with a length and a kind, with n zeroes behind them
 abbrev begun : ℕ → ℕ → ℕ → List ℕ

@@ -4,7 +4,7 @@
 ghost use mathlib.Core.Path.{_≡_};
 ghost use Prim.Native.Nat.{_+_, _≤_, _<_};
 ghost use lib.ListN.{length, drop};
-ghost use Rattle.rules.specs.Records.{field, wholeFrame, frame};
+ghost use Rattle.file_rules.specs.Records.{field, wholeFrame, frame};
 ghost use Rattle.frames.specs.Frames.{numberOf, frameOf, Skips};
 
 // The bytes that a record's length and its kind take.

@@ -14,8 +14,8 @@ use Rattle.rules.specs.Holes.{ringAt, holesOf}
 use Rattle.rules.proofs.HolesAgree.{SameLines, holes-agree}
 use Rattle.inside.specs.Spots.{spot, spotIn, RingWithin}
 use Rattle.inside.proofs.Tables.{written-at}
-use Rattle.holders.specs.Maps.{origins}
-use Rattle.holders.proofs.HoldingLaws.{line-within}
+use Rattle.holding.specs.Maps.{origins}
+use Rattle.holder_search.proofs.HoldingLaws.{line-within}
 
 -- the lines of a ring join nodes below the bound
 same-lines : (ring source : List ℕ) (bound : ℕ) → RingWithin ring source bound → SameLines (origins source) (origins source) bound ring

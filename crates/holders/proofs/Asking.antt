@@ -19,12 +19,13 @@ use Rattle.rules.specs.Holes.{enclosed, isOpen, ringNodes, ringAt}
 use Rattle.inside.specs.Spots.{Spotted, NodesWithin}
 use Rattle.inside.proofs.Tables.{written-within}
 use Rattle.candidates.specs.Candidates.{numbersOf, RingListable, Listable, Candidates}
-use Rattle.candidates.specs.Order.{Orderable}
-use Rattle.holders.specs.Maps.{origins, Map, mapOf, partOf, Laid, Holds}
-use Rattle.holders.specs.Search.{Slanted, Field}
-use Rattle.holders.specs.Listing.{OpenListed}
+use Rattle.candidate_order.specs.Order.{Orderable}
+use Rattle.holding.specs.Maps.{origins, Map, mapOf, partOf, Laid, Holds}
+use Rattle.views.specs.Views.{Slanted}
+use Rattle.holder_search.specs.Search.{Field}
+use Rattle.hole_listing.specs.Listing.{OpenListed}
 use Rattle.holders.specs.Asked.{Asked, Ready, Boxable}
-use Rattle.holders.proofs.HoldingLaws.{nodes-within}
+use Rattle.holder_search.proofs.HoldingLaws.{nodes-within}
 
 -- ---- of a map in whole numbers
 

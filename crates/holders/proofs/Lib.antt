@@ -1,10 +1,3 @@
--- Laws of the search for holders.
-pub mod Slants
-pub mod TestPoints
-pub mod Boxes
-pub mod HoldingLaws
-pub mod Searching
-pub mod Openings
-pub mod ListingLaws
+-- What finding the holes asks is there.
 pub mod Agreeing
 pub mod Asking

@@ -16,8 +16,8 @@ use Rattle.rules.specs.Holes.{enclosed, isOpen, ringAt}
 use Rattle.ring_lists.specs.Shown.{Shown}
 use Rattle.inside.specs.Spots.{RingWithin, Spotted, NodesWithin}
 use Rattle.candidates.specs.Candidates.{nodesAt, RingListable, Listable}
-use Rattle.holders.specs.Maps.{origins, Starting, Map, Holds}
-use Rattle.holders.specs.Listing.{OpenListed}
+use Rattle.holding.specs.Maps.{origins, Starting, Map, Holds}
+use Rattle.hole_listing.specs.Listing.{OpenListed}
 
 -- the nodes lie at coordinates
 pub record Placed (nodes : ℕ) (xs ys : List Float) : Type 0 where

@@ -12,28 +12,22 @@ ghost use Rattle.rules.specs.Holes.{holesOf, ringNodes};
 ghost use Rattle.holes.specs.Lent.{holeOf};
 ghost use Rattle.inside.specs.Spots.{spotIn};
 ghost use Rattle.candidates.specs.Candidates.{Candidates};
-ghost use Rattle.holders.specs.Maps.{origins, mapOf};
-ghost use Rattle.holders.specs.Search.{Slanted};
+ghost use Rattle.holding.specs.Maps.{origins, mapOf};
+ghost use Rattle.views.specs.Views.{Slanted};
 ghost use Rattle.holders.specs.Asked.{Asked, Ready, Boxable};
-
-mod holding;
-mod listing;
-mod search;
-mod slopes;
-
+use candidate_order::order_by_start;
 use candidates::CANDIDATE_NUMBERS;
 use candidates::list_enclosed;
-use candidates::order_by_start;
-use candidates::write_passing;
+use hole_listing::HoleList;
+use hole_listing::list_holes;
 use inside::write_whole;
-pub use listing::HoleList;
-use listing::list_holes;
-use slopes::choose_slope;
-use slopes::write_along;
+use passing::write_passing;
 use tables::MAX_HALF_EDGES;
 use tables::MAX_NODES;
 use tables::MAX_SHAPED;
 use tables::wide;
+use views::choose_slope;
+use views::write_along;
 
 // The node where each of the half-edges starts.
 fn write_nodes(half_edges: &[u16], dir_edges_src: &[u16], nodes: &mut [u16])

@@ -1,5 +1,3 @@
--- how many rings are open
-pub mod Opening
 -- the tests of ring extraction
 pub mod Tests
 -- what the core makes

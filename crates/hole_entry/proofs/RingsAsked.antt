@@ -31,11 +31,11 @@ use Rattle.extracting.proofs.Starts.{rings-inside, ring-some}
 use Rattle.extracting.proofs.Numbering.{halves-are, over-self, rings-few, flat-few}
 use Rattle.extracting.proofs.Outcome.{rings-many}
 use Rattle.extracting.proofs.FacesApart.{ring-halves, faces-apart}
-use Rattle.extracting.proofs.Tallying.{front-cut}
+use Rattle.lists.proofs.Entries.{front-cut}
 use Rattle.ring_lists.specs.Shown.{Shown}
 use Rattle.ring_lists.proofs.Written.{listed-at, listed-long, written-shown}
 use Rattle.inside.specs.Spots.{LineWithin}
-use Rattle.holders.specs.Maps.{origins, Starting}
+use Rattle.holding.specs.Maps.{origins, Starting}
 use Rattle.holders.specs.Asked.{Placed, Closed, Asked}
 
 -- ---- the origins alone

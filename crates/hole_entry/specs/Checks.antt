@@ -13,7 +13,7 @@ use Rattle.rules.specs.Extraction.{holesIn}
 use Rattle.tables.specs.Refusals.{refusalNumber}
 use Rattle.calls.specs.declared.checks.Checked.{Checked}
 use Rattle.calls.specs.declared.checks.Checked.the-variants.{Passed, Refused}
-use Rattle.ring_entry.specs.Checks.{RingChecked}
+use Rattle.ring_checks.specs.Checks.{RingChecked}
 use Rattle.hole_entry.specs.Clause.{lent, Extracts}
 
 -- numbers 6, 7, 5, 8 and 13 passed, or, whatever the hole list holds, the rules refuse by the number of the first that did not

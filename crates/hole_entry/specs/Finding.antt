@@ -14,7 +14,7 @@ use Rattle.tables.specs.declared.PlanarGraph.{PlanarGraph}
 use Rattle.extracting.specs.declared.Extracted.{Extracted}
 use Rattle.extracting.specs.Extraction.{listsOf, Extraction}
 use Rattle.holes.specs.Lent.{lentHoles}
-use Rattle.holders.specs.declared.listing.HoleList.{HoleList}
+use Rattle.hole_listing.specs.declared.HoleList.{HoleList}
 
 module _ (graph : PlanarGraph) (floats : List Float) (numbers halfEdges first size face side : List ℕ) (area : List Float) (done : Extracted) where
   -- with slices that are not read, the lists hold the rings of a sound state

@@ -1,5 +1,4 @@
 -- What ring extraction with the hole list asks, answers and ensures, and what its parts say.
-pub mod Open
 pub mod Replies
 pub mod Clause
 pub mod Checks

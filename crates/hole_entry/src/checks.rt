@@ -4,8 +4,8 @@ ghost use Rattle.rules.specs.Limits.{limits};
 ghost use Rattle.tables.specs.Regions.{stateIn};
 ghost use Rattle.extracting.specs.Extraction.{listsOf};
 ghost use Rattle.hole_entry.specs.Checks.{HolesChecked};
-use crate::fitting::holes_fit;
 use calls::Checked;
+use hole_room::holes_fit;
 use tables::PlanarGraph;
 use tables::Refusal;
 
@@ -29,7 +29,7 @@ pub fn check_holes(
         (stateIn limits graph (now (floats .entry)) (now (numbers .entry)) (now (stars .entry)) (now (marks .entry)) (now (ids .entry)))
         (listsOf (now («half_edges» .entry)) (now («ring_first» .entry)) (now («ring_length» .entry)) (now («ring_face» .entry)) (now («ring_side» .entry)) (now («ring_area» .entry))) r ⌝ }
 {
-    let checked = ring_entry::check_rings(
+    let checked = ring_checks::check_rings(
         graph,
         floats,
         numbers,

@@ -1,7 +1,7 @@
 // The holes of the rings that were extracted.
 ghost use Rattle.hole_entry.specs.Finding.{RingsGiven, HolesFound};
 use extracting::Extracted;
-use holders::HoleList;
+use hole_listing::HoleList;
 use tables::NODES_Y;
 use tables::NODES_Z;
 use tables::PlanarGraph;

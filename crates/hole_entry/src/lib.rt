@@ -2,7 +2,6 @@
 // the prover, so the entry, which is proved by hand, only calls the core and has the records written.
 mod checks;
 mod finding;
-mod fitting;
 mod making;
 
 ghost use Rattle.rules.specs.Limits.{limits};

@@ -1,11 +1,11 @@
 -- A ring of half-edges and the walk along its nodes: the point is inside the ring exactly where the walk says so, and where one of the nodes lies at the
 -- point the walk says that it is on the ring.
-use Prim.Native.Nat.{ℕ, suc, _+_, _%_}
+use Prim.Native.Nat.{ℕ, _+_, _%_}
 use native.Mathlib.Omega.{arith}
-use mathlib.Core.Path.{_≡_, refl, sym, ap, ap₂, subst, _∙_}
+use mathlib.Core.Path.{_≡_, refl, sym, ap, ap₂, _∙_}
 use mathlib.Core.Logic.{⊎-elim}
 use mathlib.Core.Bool.{Bool, true, false, cond, not, _&&_, _||_}
-use mathlib.Core.List.{List, [], _∷_, _++_, map}
+use mathlib.Core.List.{List, [], _∷_, _++_}
 use lib.Dec.{eqb}
 use lib.ListN.{length, getD}
 use lib.IntN.{ℤ, pos, _-ℤ_, _*ℤ_, *ℤ-comm, +ℤ-invr}
@@ -13,7 +13,6 @@ use lib.Signed.{leZ}
 use Rattle.lists.specs.Lists.{keep, bit, pick, all, lastOf, In}
 use Rattle.lists.proofs.Counts.{by-test, in-cons}
 use Rattle.geometry.specs.Angle.{Point, orientation}
-use Rattle.geometry.specs.Coordinate.{eqZ}
 use Rattle.geometry.proofs.Integers.{le-leZ, leZ-false}
 use Rattle.rules.specs.HalfEdge.{twin}
 use Rattle.rules.specs.Cycles.{Arrangement}

@@ -6,45 +6,18 @@ ghost use mathlib.Core.Path.{_≡_};
 ghost use Rattle.adding.specs.Outcomes.{Ready};
 ghost use Rattle.rules.specs.Limits.{limits};
 ghost use Rattle.tables.specs.Regions.{stateIn};
-ghost use Rattle.intake.specs.Taking.{takeFile};
-ghost use Rattle.intake.specs.Answers.{takingOf};
-use chained::take_chained;
+ghost use Rattle.taking.specs.Taking.{takeFile};
+ghost use Rattle.taking.specs.Answers.{takingOf};
+ghost use Rattle.taking.specs.Taking.{takeFile};
+ghost use Rattle.taking.specs.Answers.{takingOf};
+use chained_intake::take_chained;
 use tables::PlanarGraph;
-
-mod chained;
+use taking::Taken;
 
 // The chains of nodes and of half-edges: their heads, and an entry for each that there may be.
 const NODE_CHAINS: usize = lookup::NODE_HEADS + tables::MAX_NODES;
 
 const HALF_CHAINS: usize = lookup::HALF_HEADS + 2 * tables::MAX_EDGES;
-
-// What taking answers: all was taken, or the documents' number of the first refusal.
-pub enum TakeReply {
-    Done,
-    Refused(u32),
-}
-
-// What follows a record: the next one, behind so many bytes, or nothing, with the answer to all of them.
-pub enum Next {
-    Onward(usize),
-    Ended(TakeReply),
-}
-
-// The counts and the stage after one record, what follows it, and the lowest free place for a line id.
-pub struct Turn {
-    pub graph: PlanarGraph,
-    pub next: Next,
-    pub free: u16,
-}
-
-// The counts and the stage after many, how many were taken or passed over, which is the number from 0 of
-// one that is refused, and how many bytes these have.
-pub struct Taken {
-    pub graph: PlanarGraph,
-    pub count: usize,
-    pub bytes: usize,
-    pub reply: TakeReply,
-}
 
 // All records of the bytes, one after another, to their end or to the first that is refused. Where the
 // bytes end inside a record that is 9; a reader of a stream then goes on from `bytes` with more.
@@ -65,7 +38,7 @@ pub fn take_records(
     let free = line_ids::next_free(0, &used);
     let mut node_chains = [0u16; NODE_CHAINS];
     let mut half_chains = [0u16; HALF_CHAINS];
-    indexing::chain_all(
+    chaining::chain_all(
         graph,
         floats,
         numbers,

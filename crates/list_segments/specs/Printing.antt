@@ -5,7 +5,7 @@ use mathlib.Core.List.{List}
 use lib.ListN.{length}
 use Rattle.rules.specs.Limits.{limits}
 use Rattle.lists.specs.Buffer.{Put}
-use Rattle.byte_listing.specs.File.{fileText}
+use Rattle.taken_text.specs.File.{fileText}
 use Rattle.list_segments.specs.declared.Printed.{Printed}
 use Rattle.list_segments.specs.declared.Printed.the-variants.{Text, Failed}
 

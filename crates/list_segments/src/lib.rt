@@ -2,7 +2,7 @@
 ghost use Prim.Native.Nat.{_≤_};
 ghost use lib.ListN.{length};
 ghost use Rattle.rules.specs.Limits.{limits};
-ghost use Rattle.listing_steps.specs.Rooms.{listingRoom};
+ghost use Rattle.ring_lines.specs.Rooms.{listingRoom};
 ghost use Rattle.list_segments.specs.Printing.{Prints, Ends};
 use listing_steps::LISTING_ROOM;
 use tables::FLOATS;
@@ -46,7 +46,7 @@ fn put_input(input: i32, out: &mut [u8]) -> Printed
     if buffered_input::is_failed(source) {
         return Printed::Failed;
     }
-    let size = byte_listing::put_taken(
+    let size = taken_text::put_taken(
         after,
         read.records,
         reply,

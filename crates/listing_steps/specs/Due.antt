@@ -6,7 +6,7 @@ use lib.ListN.{length}
 use Rattle.rules.specs.Limits.{limits}
 use Rattle.rules.specs.State.{State}
 use Rattle.rules.specs.Going.{Held}
-use Rattle.listing_steps.specs.Rooms.{listingRoom}
+use Rattle.ring_lines.specs.Rooms.{listingRoom}
 
 -- in stage 0 the steps of a map are due, in stage 3 ring extraction
 pub record Due (stage : ℕ) (s : State) (out : List ℕ) : Type 0 where

@@ -1,3 +1,2 @@
--- Room for the listing of a built graph, and what its functions ask. The text itself is rules/specs/Listing.antt. Read in this order.
-pub mod Rooms
+-- What listing a built graph asks. The text itself is rules/specs/Listing.antt.
 pub mod Due

@@ -4,13 +4,11 @@ ghost use Rattle.rules.specs.Listing.{cutText, listing};
 ghost use Rattle.tables.specs.Regions.{stateIn};
 ghost use Rattle.lists.specs.Buffer.{Put};
 ghost use Rattle.listing_steps.specs.Due.{Due};
-use lines::printed;
-use lines::put_rings;
+use ring_lines::printed;
+use ring_lines::put_rings;
 use tables::MAX_HALF_EDGES;
 use tables::PlanarGraph;
 use tables::TARGETS;
-
-mod lines;
 
 // How many bytes the longest listing has at most: line one, and a line of 78 bytes for each half-edge,
 // since there are no more rings than these, nor more nodes in all of them.
@@ -37,7 +35,7 @@ fn put_cut(
     let mut ring_face = [0u16; MAX_HALF_EDGES];
     let mut ring_side = [0u8; MAX_HALF_EDGES];
     let mut ring_area = [0.0f64; MAX_HALF_EDGES];
-    let rings = map_steps::ring_map(
+    let rings = map_rings::ring_map(
         graph,
         floats,
         numbers,

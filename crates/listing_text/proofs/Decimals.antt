@@ -11,7 +11,7 @@ use lib.ListN.{length, length-append}
 use lib.IntN.{ℤ, pos, negsuc}
 use lib.Signed.{mag}
 use Rattle.lists.proofs.Counts.{by-lt}
-use Rattle.rules.specs.Decimal.{digit, digits, decimal, signedDecimal}
+use Rattle.file_rules.specs.Decimal.{digit, digits, decimal, signedDecimal}
 
 -- a turn, by the way its test goes
 digits-by : (t n : ℕ) {b : Bool} → ltb n 10 ≡ b → digits (suc t) n ≡ elim b [ true ↦ digit n ∷ [] | false ↦ digits t (n / 10) ++ (digit (n % 10) ∷ []) ]

@@ -6,7 +6,7 @@ use native.Mathlib.Omega.{arith}
 use lib.IntN.{ℤ}
 use lib.Signed.{mag}
 use lib.ListN.{length, getD, length-append}
-use Rattle.rules.specs.Lines.{verdict, headLine, spaced, startingNodes, ringLine, refusalLine}
+use Rattle.file_rules.specs.Lines.{verdict, headLine, spaced, startingNodes, ringLine, refusalLine}
 use Rattle.listing_text.specs.Rooms.{headRoom, ringRoom, refusalRoom}
 use Rattle.listing_text.proofs.Decimals.{decimal-64, decimal-16, signed-64}
 

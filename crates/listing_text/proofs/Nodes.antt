@@ -6,7 +6,7 @@ use native.Mathlib.Omega.{arith}
 use native.Mathlib.Numerals.{add-one}
 use lib.ListN.{length, getD, take, drop, length-drop, drop-of-length-le}
 use lib.Seq.{drop-cons, getD-take, getD-drop, length-take-le}
-use Rattle.rules.specs.Lines.{labelled, spaced, startingNodes}
+use Rattle.file_rules.specs.Lines.{labelled, spaced, startingNodes}
 use Rattle.lists.proofs.Buffers.{Left}
 
 module _ (source edges : List ℕ) (first size : ℕ) (inside : first + size ≤ length edges) where

@@ -1,11 +1,11 @@
--- Lines that the definitions give beside those of the table P1 to P10 (rules/specs/Worked.antt): large numbers, a verdict of no, and what bytes are.
+-- Lines that the definitions give beside those of the table P1 to P10 (worked_cases/specs/Tracings.antt): large numbers, a verdict of no, and what bytes are.
 use Prim.Native.Nat.{ℕ}
 use mathlib.Core.Path.{_≡_, refl}
 use mathlib.Core.Bool.{false}
 use mathlib.Core.List.{List, [], _∷_}
 use lib.IntN.{negsuc}
-use Rattle.rules.specs.Decimal.{ascii, decimal, signedDecimal}
-use Rattle.rules.specs.Lines.{headLine, ringLine, refusalLine}
+use Rattle.file_rules.specs.Decimal.{ascii, decimal, signedDecimal}
+use Rattle.file_rules.specs.Lines.{headLine, ringLine, refusalLine}
 
 -- what the definitions give: a refusal at the largest number, a verdict of no, and whole numbers
 abbrev found : List (List ℕ)

@@ -11,7 +11,7 @@ use Rattle.rules.specs.State.{State}
 use Rattle.tables.specs.declared.PlanarGraph.{PlanarGraph}
 use Rattle.adding.specs.Written.{entered, grownBy, Makeable}
 use Rattle.adding.specs.declared.Ends.{Ends}
-use Rattle.writing.specs.Written.{nodeCounted, edgeCounted}
+use Rattle.table_entries.specs.Written.{nodeCounted, edgeCounted}
 
 -- a node leaves the number of edges
 pub node-edges : (b : Bool) (n : ℕ) (g : PlanarGraph) → nodeCounted b n g .«edge_count» ≡ g .«edge_count»

@@ -28,7 +28,7 @@ use Rattle.adding.specs.Outcomes.{Ready}
 use Rattle.adding.specs.Searches.{findHalfIn}
 use Rattle.adding.specs.declared.Decision.the-variants.{Enter}
 use Rattle.adding.proofs.Carrying.{between, decided, enterable}
-use Rattle.writing.specs.Written.{IdRoom}
+use Rattle.table_entries.specs.Written.{IdRoom}
 use Rattle.making.specs.declared.IdPlace.{IdPlace}
 use Rattle.making.specs.declared.Matches.{Matches}
 use Rattle.making.specs.Matching.{FoundIn, PlacedIn}

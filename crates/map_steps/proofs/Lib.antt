@@ -1,3 +1,2 @@
--- Laws on the steps, and on the lists that ring extraction writes.
+-- Laws on the steps.
 pub mod Steps
-pub mod Extracted

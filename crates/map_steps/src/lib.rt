@@ -1,17 +1,14 @@
-// From a graph that was built to its rings: sorting, pruning and cutting, and then extraction. No step
+// From a graph that was built to one whose cut edges are marked: sorting, pruning and cutting. No step
 // refuses a graph that is sound and in the stage before it. Its answer has a case for a refusal all the
 // same, and `match` wants an arm for it: that arm is proved never to be taken.
 ghost use mathlib.Core.Path.{_≡_};
 ghost use Rattle.rules.specs.Limits.{limits};
 ghost use Rattle.rules.specs.Stages.{sortedState};
 ghost use Rattle.tables.specs.Regions.{stateIn};
-ghost use Rattle.extracting.specs.Extraction.{listsOf};
 ghost use Rattle.map_steps.specs.Stands.{Stands};
 ghost use Rattle.map_steps.specs.Maps.{pruning, cutting, cutMap};
-ghost use Rattle.map_steps.specs.Rings.{Wide, Rung};
 use cut_entry::CutReply;
 use prune_entry::PruneReply;
-use ring_entry::RingReply;
 use tables::MAX_EDGES;
 use tables::PlanarGraph;
 
@@ -26,12 +23,6 @@ pub struct CutMap {
     pub graph: PlanarGraph,
     pub dangles: u16,
     pub cuts: u16,
-}
-
-// How many rings a cut graph has, and whether Euler's formula holds of them.
-pub struct RingMap {
-    pub count: u16,
-    pub euler: bool,
 }
 
 // Built: every star is sorted.
@@ -138,51 +129,5 @@ pub fn cut_map(
         graph: after,
         dangles: pruned.count,
         cuts: cut.count,
-    }
-}
-
-// Cut: the rings are extracted into lists that have room for every graph's.
-pub fn ring_map(
-    graph: PlanarGraph,
-    floats: &[f64],
-    numbers: &[u16],
-    stars: &[u16],
-    marks: &[bool],
-    ids: &[u32],
-    half_edges: &mut [u16],
-    ring_first: &mut [u16],
-    ring_length: &mut [u16],
-    ring_face: &mut [u16],
-    ring_side: &mut [u8],
-    ring_area: &mut [f64],
-) -> RingMap
-    requires { ⌜ Stands 3 (stateIn limits graph (now floats) (now numbers) (now stars) (now marks) (now ids)) × Wide (listsOf (now «half_edges») (now «ring_first») (now «ring_length») (now «ring_face») (now «ring_side») (now «ring_area»)) ⌝ }
-    ensures { λ r. ⌜ Rung (stateIn limits graph (now (floats .entry)) (now (numbers .entry)) (now (stars .entry)) (now (marks .entry)) (now (ids .entry)))
-        (listsOf (now («half_edges» .exit)) (now («ring_first» .exit)) (now («ring_length» .exit)) (now («ring_face» .exit)) (now («ring_side» .exit)) (now («ring_area» .exit))) (r .count) (r .euler) ⌝ }
-{
-    let done = ring_entry::extract_without_holes(
-        graph,
-        floats,
-        numbers,
-        stars,
-        marks,
-        ids,
-        half_edges,
-        ring_first,
-        ring_length,
-        ring_face,
-        ring_side,
-        ring_area,
-    );
-    let reply = done.reply;
-    match reply {
-        RingReply::Rings(count, census, _) => RingMap {
-            count,
-            euler: census.verdict,
-        },
-        RingReply::Refused(_) => RingMap {
-            count: 0,
-            euler: false,
-        },
     }
 }

@@ -10,8 +10,8 @@ use Rattle.rules.specs.Limits.{Limits}
 use Rattle.rules.specs.Adding.{Nothing}
 use Rattle.rules.specs.Sketch.{Sketch}
 use Rattle.rules.specs.Claim.{isRefused}
-use Rattle.intake.specs.Taking.{Taking}
-use Rattle.file_entry.specs.FileAdding.{endNumber}
+use Rattle.taking.specs.Taking.{Taking}
+use Rattle.file_taking.specs.FileAdding.{endNumber}
 use Rattle.older_station.specs.Drawing.{Within}
 use Rattle.older_station.proofs.Growing.{Grown, grown-within}
 use Rattle.older_station.proofs.Walks.{Ends, whole, twelve, three, four}

@@ -12,8 +12,8 @@ use Rattle.rules.specs.Adding.{Nothing}
 use Rattle.rules.proofs.AddingSound.{steady-tests}
 use Rattle.rules.proofs.Going.{demand-is}
 use Rattle.rules.proofs.NodeSound.{Steady}
-use Rattle.intake.specs.Taking.{takeFile}
-use Rattle.file_entry.specs.FileAdding.{recordsTaken, addRecords}
+use Rattle.taking.specs.Taking.{takeFile}
+use Rattle.file_taking.specs.FileAdding.{recordsTaken, addRecords}
 use Rattle.older_station.specs.Wider.{Wider, olderLimits}
 use Rattle.older_station.specs.Older.{OlderStation}
 use Rattle.older_station.specs.Entry.{OlderEntry}

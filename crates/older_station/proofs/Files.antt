@@ -14,8 +14,8 @@ use Rattle.rules.specs.Limits.{Limits, Fine}
 use Rattle.rules.specs.LineIds.{listEnd}
 use Rattle.rules.specs.State.{State}
 use Rattle.rules.specs.Adding.{Outcome, Added, Nothing, add}
-use Rattle.rules.specs.Records.{Found, taken, passed, wrong, end, onward, readOn, readFile}
-use Rattle.rules.specs.SegmentFile.{segmentNext}
+use Rattle.file_rules.specs.Records.{Found, taken, passed, wrong, end, onward, readOn, readFile}
+use Rattle.file_rules.specs.SegmentFile.{segmentNext}
 use Rattle.rules.specs.Sketch.{Sketch, adding, feed}
 use Rattle.rules.specs.Claim.{Given64}
 use Rattle.rules.proofs.AddCases.{refusal}
@@ -25,8 +25,8 @@ use Rattle.rules.proofs.Histories.{Together}
 use Rattle.rules.proofs.NodeSound.{Steady}
 use Rattle.frames.proofs.FrameLaws as frames
 use Rattle.segment_file.proofs.Found.{segment-within}
-use Rattle.intake.specs.Taking.{afterAdding, takeRecord, Taking, halted, behind, follow, takeFile}
-use Rattle.intake.proofs.Turns.{file-step}
+use Rattle.taking.specs.Taking.{afterAdding, takeRecord, Taking, halted, behind, follow, takeFile}
+use Rattle.taking.proofs.Turns.{file-step}
 use Rattle.older_station.specs.Drawing.{drawnOn, Within, soundSegment, soundSegments, SoundFile}
 use Rattle.older_station.proofs.Widening.{widened}
 use Rattle.older_station.proofs.Growing.{file-reads}

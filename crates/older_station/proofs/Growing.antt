@@ -9,12 +9,12 @@ use lib.ListN.{length, drop, length-append}
 use Rattle.geometry.specs.Angle.{Point, pointOfCoord}
 use Rattle.geometry.specs.declared.Line3D.{Line3D}
 use Rattle.rules.specs.Limits.{Limits}
-use Rattle.rules.specs.Records.{Found, taken, passed, wrong, end, Reading, onward, readOn, readFile}
-use Rattle.rules.specs.SegmentFile.{segmentIn, segmentNext}
+use Rattle.file_rules.specs.Records.{Found, taken, passed, wrong, end, Reading, onward, readOn, readFile}
+use Rattle.file_rules.specs.SegmentFile.{segmentIn, segmentNext}
 use Rattle.rules.specs.Sketch.{Sketch, adding, findPoint, withPoint, havePoint, joins, withLine, sketchAdd, feed}
 use Rattle.rules.specs.Filing.{fileSegments}
 use Rattle.rules.proofs.SketchCalls.{have-is}
-use Rattle.rules.proofs.ReadingLaws.{read-step}
+use Rattle.file_rules.proofs.ReadingLaws.{read-step}
 use Rattle.older_station.specs.Drawing.{drawnOn, Within}
 
 -- ---- no segment takes anything away

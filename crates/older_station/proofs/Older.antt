@@ -12,7 +12,7 @@ use Rattle.rules.specs.Claim.{emptySketch}
 use Rattle.rules.proofs.Going.{new-stays}
 use Rattle.rules.proofs.Histories.{start-together}
 use Rattle.rules.proofs.NodeSound.{Steady}
-use Rattle.intake.specs.Taking.{Taking, takeFile}
+use Rattle.taking.specs.Taking.{Taking, takeFile}
 use Rattle.older_station.specs.Wider.{Wider, olderLimits}
 use Rattle.older_station.specs.Drawing.{drawnBy, drawing}
 use Rattle.older_station.specs.Older.{Older, OlderStation}

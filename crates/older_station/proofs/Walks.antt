@@ -8,8 +8,8 @@ use Rattle.rules.specs.Limits.{Limits}
 use Rattle.rules.specs.State.{State}
 use Rattle.rules.specs.Adding.{Nothing}
 use Rattle.rules.specs.Sketch.{Sketch}
-use Rattle.intake.specs.Taking.{Taking, halted, behind}
-use Rattle.intake.proofs.Turns.{behind-none, behind-more}
+use Rattle.taking.specs.Taking.{Taking, halted, behind}
+use Rattle.taking.proofs.Turns.{behind-none, behind-more}
 use Rattle.older_station.specs.Drawing.{Within}
 
 -- how the older station's taking o ends, beside the newer one's n: `at c` is what the first c records draw, `all` what all of them do

@@ -11,8 +11,8 @@ use Rattle.geometry.specs.declared.Line3D.{Line3D}
 use Rattle.rotation.specs.Rotation.{keySame}
 use Rattle.rules.specs.Keys.{keyOf}
 use Rattle.rules.specs.Limits.{Limits}
-use Rattle.rules.specs.Records.{readOn, readFile}
-use Rattle.rules.specs.SegmentFile.{segmentNext}
+use Rattle.file_rules.specs.Records.{readOn, readFile}
+use Rattle.file_rules.specs.SegmentFile.{segmentNext}
 use Rattle.rules.specs.Sketch.{Sketch, adding, feed}
 use Rattle.rules.specs.Claim.{emptySketch}
 use Rattle.rules.specs.Filing.{fileSegments}

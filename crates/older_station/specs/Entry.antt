@@ -5,8 +5,8 @@ use mathlib.Core.Bool.{true}
 use mathlib.Core.List.{List}
 use Rattle.rules.specs.Limits.{Limits}
 use Rattle.rules.specs.State.{State, roomy}
-use Rattle.intake.specs.Taking.{Taking, takeFile}
-use Rattle.file_entry.specs.FileAdding.{recordsTaken, addRecords}
+use Rattle.taking.specs.Taking.{Taking, takeFile}
+use Rattle.file_taking.specs.FileAdding.{recordsTaken, addRecords}
 use Rattle.older_station.specs.Drawing.{SoundFile}
 use Rattle.older_station.specs.Older.{Older}
 

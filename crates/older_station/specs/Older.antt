@@ -8,7 +8,7 @@ use lib.ListN.{length, drop}
 use Rattle.geometry.specs.Reply.{refused, success}
 use Rattle.rules.specs.Limits.{Limits}
 use Rattle.rules.specs.State.{State, roomy}
-use Rattle.intake.specs.Taking.{Taking, behind, takeFile}
+use Rattle.taking.specs.Taking.{Taking, behind, takeFile}
 use Rattle.older_station.specs.Drawing.{drawnBy, drawing, Within, SoundFile}
 
 -- a file's taking o by an old station, beside its taking n by a new one

@@ -11,11 +11,11 @@ use Rattle.geometry.specs.Reply.{Reply, success}
 use Rattle.rules.specs.Keys.{keyOf}
 use Rattle.rules.specs.Limits.{Limits, limits}
 use Rattle.rules.specs.State.{State}
-use Rattle.rules.specs.Records.{readFile}
-use Rattle.rules.specs.SegmentFile.{segmentNext}
+use Rattle.file_rules.specs.Records.{readFile}
+use Rattle.file_rules.specs.SegmentFile.{segmentNext}
 use Rattle.rules.specs.Filing.{fileSegments}
 use Rattle.rules.specs.Sketch.{feed}
-use Rattle.file_entry.specs.FileAdding.{Records, addRecords}
+use Rattle.file_taking.specs.FileAdding.{Records, addRecords}
 use Rattle.older_station.specs.Drawing.{drawnBy, soundSegments}
 
 -- ---- two stations with so many pairs

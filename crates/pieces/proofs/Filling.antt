@@ -18,8 +18,8 @@ use Rattle.rules.specs.Sane.{Sane}
 use Rattle.rules.proofs.Values.{map-in}
 use Rattle.rules.proofs.Successor.{Leaves, star-leaves, ends}
 use Rattle.rules.proofs.Roots.{near, leaves-near, rootOf, path-here, path-step, path-keeps, path-root, root-joins}
-use Rattle.pieces.specs.Reach.{reachAll, reachNew}
-use Rattle.pieces.proofs.Reaching.{reach-keeps, new-in, reach-change, reach-some}
+use Rattle.seeds.specs.Reach.{reachAll, reachNew}
+use Rattle.seeds.proofs.Reaching.{reach-keeps, new-in, reach-change, reach-some}
 
 -- a member of two lists together is one of either
 pub in-either : (x : ℕ) (l m : List ℕ) → In x (l ++ m) → In x l ⊎ In x m

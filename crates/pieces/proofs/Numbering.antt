@@ -21,11 +21,11 @@ use Rattle.tables.specs.Tables.{stateOf}
 use Rattle.tables.specs.declared.PlanarGraph.{PlanarGraph}
 use Rattle.stars.specs.Grouped.{Grouped}
 use Rattle.stars.specs.Groups.{InEach}
-use Rattle.pieces.specs.Reach.{Filled}
-use Rattle.pieces.specs.Seeds.{lying, isLow, lowIn, seedsIn}
-use Rattle.pieces.specs.Numbers.{InEachState, seedsOf, Numbered, Swept}
-use Rattle.pieces.proofs.SeedOrder.{seeds-front}
-use Rattle.pieces.proofs.Stars.{ends-near}
+use Rattle.seeds.specs.Reach.{Filled}
+use Rattle.seeds.specs.Seeds.{lying, isLow, lowIn, seedsIn}
+use Rattle.seeds.specs.Numbers.{InEachState, seedsOf, Numbered, Swept}
+use Rattle.seeds.proofs.SeedOrder.{seeds-front}
+use Rattle.seeds.proofs.Stars.{ends-near}
 use Rattle.pieces.proofs.Sweeping.{Sweeping, here, swept-first, swept-has, new-clear, swept-new, swept-all}
 
 -- what a fill leaves, by the arrangement of a state

@@ -26,9 +26,9 @@ use Rattle.rules.proofs.PieceCounts.{one-count}
 use Rattle.rules.proofs.Claims.{nodes-are}
 use Rattle.rules.proofs.PieceNumbers.{order-seeds, decides-seeds, is-seed-is, piece-is, path-seed, seed-path, seed-first, seed-inside, seed-passes, seeds-one, path-piece}
 use Rattle.rules.proofs.Roots.{rootOf, path-here, path-back, path-root, path-touched, root-joins}
-use Rattle.pieces.specs.Numbers.{isLowest, seedsOf, Numbered}
-use Rattle.pieces.proofs.Lowest.{lowest-touched, seed-lowest}
-use Rattle.pieces.proofs.SeedOrder.{Any, seeds-order, seeds-ordered}
+use Rattle.seeds.specs.Numbers.{isLowest, seedsOf, Numbered}
+use Rattle.seeds.proofs.Lowest.{lowest-touched, seed-lowest}
+use Rattle.seeds.proofs.SeedOrder.{Any, seeds-order, seeds-ordered}
 
 module _ (s : State) (sane : Sane (arrangement s)) where
   -- ---- the seeds in order

@@ -14,10 +14,10 @@ use Rattle.rules.specs.State.{arrangementIn}
 use Rattle.rules.proofs.Roots.{near}
 use Rattle.stars.specs.Grouped.{Grouped}
 use Rattle.stars.specs.Groups.{groupOf}
-use Rattle.pieces.specs.Reach.{reachAll, reachNew, endsOf, Reached, Spreadable, Takeable}
-use Rattle.pieces.proofs.Reaching.{free, new-in, free-reach}
+use Rattle.seeds.specs.Reach.{reachAll, reachNew, endsOf, Reached, Spreadable, Takeable}
+use Rattle.seeds.proofs.Reaching.{free, new-in, free-reach}
 use Rattle.pieces.proofs.Filling.{Below, Filling, fill-step, in-either, in-first, in-second}
-use Rattle.pieces.proofs.Stars.{ends-low, ends-near}
+use Rattle.seeds.proofs.Stars.{ends-low, ends-near}
 
 module _ (source : List ℕ) (marks : List Bool) (offsets grouped : List ℕ) (piece : ℕ) (some : 0 < piece) (pieces stack : List ℕ) (top : ℕ) (any : 0 < top)
     (fits : top + free pieces ≤ length pieces) (deep : length pieces ≤ length stack) where

@@ -1,9 +1,9 @@
 // Piece numbers: a fill from each seed that no fill has reached, in the order of seeds.
 ghost use lib.ListN.{take};
 ghost use Rattle.rules.specs.Limits.{limits};
-ghost use Rattle.pieces.specs.Numbers.{InEachState, Numbered, Swept, Sweepable, Numberable};
+ghost use Rattle.seeds.specs.Numbers.{InEachState, Numbered, Swept, Sweepable, Numberable};
 use crate::fill::fill_piece;
-use crate::seeds::order_seeds;
+use seeds::order_seeds;
 use tables::MAX_NODES;
 use tables::NodeId;
 use tables::PlanarGraph;

@@ -13,7 +13,7 @@ use Rattle.tables.specs.Regions.{sourcesIn, starTableIn, degreesIn, nodeMarksIn
 use Rattle.tables.specs.declared.PlanarGraph.{PlanarGraph}
 use Rattle.stars.specs.Grouped.{Grouped}
 use Rattle.stars.specs.Groups.{groupOf}
-use Rattle.pruning.specs.Given.{originIn, Prunable}
+use Rattle.leaves.specs.Given.{originIn, Prunable}
 use Rattle.pruning.proofs.Groups.{stars-agree, counted-agree, prune-agree}
 use Rattle.prune_entry.specs.Given.{starsIn, SlicePrunable, prunedIn}
 

@@ -18,7 +18,7 @@ use Rattle.rules.proofs.Soundness.{is-roomy, is-sound}
 use Rattle.rules.proofs.PrunedTables.{sound-stars, sound-counted}
 use Rattle.tables.specs.declared.Refusal.{Refusal}
 use Rattle.tables.specs.declared.Refusal.the-variants.{ListTooShort}
-use Rattle.pruning.specs.Given.{originIn}
+use Rattle.leaves.specs.Given.{originIn}
 use Rattle.calls.specs.Checks.{stageCheck}
 use Rattle.calls.specs.declared.checks.Checked.the-variants.{Refused}
 use Rattle.calls.proofs.Shells.{turnedDown, Good, step-stops, list-stops, list-passes}

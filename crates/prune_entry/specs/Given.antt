@@ -10,7 +10,7 @@ use Rattle.rules.specs.Counted.{Stars, Counted}
 use Rattle.tables.specs.Regions.{sourcesIn, starTableIn, degreesIn, nodeMarksIn, halfMarksIn}
 use Rattle.tables.specs.declared.PlanarGraph.{PlanarGraph}
 use Rattle.stars.specs.Grouped.{Groupable}
-use Rattle.pruning.specs.Given.{originIn}
+use Rattle.leaves.specs.Given.{originIn}
 
 -- the star of a node
 abbrev pub starsIn : Limits → PlanarGraph → List ℕ → List ℕ → ℕ → List ℕ

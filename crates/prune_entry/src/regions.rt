@@ -4,7 +4,7 @@ ghost use Prim.Native.Nat.{_≤_};
 ghost use lib.ListN.{length};
 ghost use Rattle.rules.specs.Limits.{limits};
 ghost use Rattle.tables.specs.Regions.{starTableIn, degreesIn, nodeMarksIn, halfMarksIn, leastNumbers, leastStars, leastMarks};
-ghost use Rattle.pruning.specs.Steps.{Left};
+ghost use Rattle.pruning.specs.Left.{Left};
 ghost use Rattle.prune_entry.specs.Given.{prunedIn, SlicePrunable};
 use crate::rows::copy_marks;
 use pruning::PruneDone;

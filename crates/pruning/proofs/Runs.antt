@@ -13,11 +13,11 @@ use Rattle.rules.specs.Prune.{Pruning, takeFrom, prune}
 use Rattle.rules.proofs.Dangles.{found-le}
 use Rattle.rules.proofs.PruneEnds.{remaining, remaining-less, Underway, underway-start, underway-turn, underway-end}
 use Rattle.stars.specs.Groups.{groupOf}
-use Rattle.pruning.specs.declared.Progress.{Progress}
-use Rattle.pruning.specs.Given.{originIn, Prunable}
-use Rattle.pruning.specs.Steps.{leaf, latest, tablesAt, Reached, Turning, topOf}
-use Rattle.pruning.proofs.Latest.{length-latest, over-latest}
-use Rattle.pruning.proofs.Turns.{stack-is, takes}
+use Rattle.leaves.specs.declared.Progress.{Progress}
+use Rattle.leaves.specs.Given.{originIn, Prunable}
+use Rattle.leaves.specs.Steps.{leaf, latest, tablesAt, Reached, Turning, topOf}
+use Rattle.leaves.proofs.Latest.{length-latest, over-latest}
+use Rattle.leaves.proofs.Turns.{stack-is, takes}
 
 module _ (l : Limits) (nodes edges : ℕ) (offsets grouped source ds₀ : List ℕ) (nm₀ hm₀ : List Bool) (out₀ : List ℕ) where
   -- between turns: the tables are on the way from those at entry to what pruning makes of them

@@ -1,3 +1,2 @@
--- What pruning asks of the tables, and what its parts leave.
-pub mod Given
-pub mod Steps
+-- What pruning leaves.
+pub mod Left

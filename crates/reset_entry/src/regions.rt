@@ -7,8 +7,8 @@ ghost use lib.ListN.{length, replicate};
 ghost use Rattle.lists.specs.Lists.{upto, over};
 ghost use Rattle.rules.specs.Limits.{limits};
 ghost use Rattle.tables.specs.Tables.{atStage};
-ghost use Rattle.tables.specs.Tests.{startsAt};
-ghost use Rattle.tables.specs.Given.{Resettable};
+ghost use Rattle.table_tests.specs.Tests.{startsAt};
+ghost use Rattle.table_tests.specs.Given.{Resettable};
 ghost use Rattle.tables.specs.Regions.{sourcesIn, starTableIn, degreesIn, nodeMarksIn, halfMarksIn, leastNumbers, leastStars, leastMarks};
 use tables::DEGREES;
 use tables::HALF_MARKS;
@@ -33,9 +33,9 @@ pub fn reset_regions(
 {
     let nodes = wide(graph.node_count);
     let halves = 2 * wide(graph.edge_count);
-    let counts = tables::count_starts(halves, &numbers[0..TARGETS]);
-    tables::write_degrees(nodes, &counts, &mut stars[DEGREES..]);
-    tables::clear_marks(nodes, &mut marks[0..HALF_MARKS]);
-    tables::clear_marks(halves, &mut marks[HALF_MARKS..]);
+    let counts = table_tests::count_starts(halves, &numbers[0..TARGETS]);
+    table_tests::write_degrees(nodes, &counts, &mut stars[DEGREES..]);
+    table_tests::clear_marks(nodes, &mut marks[0..HALF_MARKS]);
+    table_tests::clear_marks(halves, &mut marks[HALF_MARKS..]);
     graph.at_stage(0)
 }

@@ -1,3 +1,2 @@
--- the tests of ring extraction
-pub mod Shell
+-- Parts of the slices, lent to the core.
 pub mod Lending

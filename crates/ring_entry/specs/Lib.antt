@@ -1,5 +1,3 @@
--- What ring extraction asks of the slices, answers and ensures, and what its tests say.
+-- What ring extraction asks of the slices and answers.
 pub mod Given
 pub mod Replies
-pub mod Clause
-pub mod Checks

@@ -1,19 +1,17 @@
 // Ring extraction without the hole list: stage 3 to 4.
-mod checks;
-mod lengths;
 mod regions;
 mod sides;
 
-pub use checks::check_rings;
 pub use regions::extract_regions;
 pub use sides::sides_of_regions;
 ghost use Rattle.rules.specs.Limits.{limits};
 ghost use Rattle.tables.specs.Regions.{stateIn};
 ghost use Rattle.extracting.specs.Extraction.{listsOf};
 ghost use Rattle.ring_entry.specs.Replies.{ringReply};
-ghost use Rattle.ring_entry.specs.Clause.{Extracts};
+ghost use Rattle.ring_checks.specs.Clause.{Extracts};
 use calls::Checked;
 use cycles::Census;
+use ring_checks::check_rings;
 use tables::PlanarGraph;
 use tables::Refusal;
 

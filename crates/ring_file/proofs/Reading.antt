@@ -10,9 +10,9 @@ use lib.Dec.{leb}
 use borrow.Author.Tests.{le-leb, lt-leb}
 use Rattle.lists.proofs.Tests.{both-true, no-left, no-right}
 use Rattle.geometry.specs.Reply.{Reply, refused, success}
-use Rattle.rules.specs.Records.{Reading, readFile}
-use Rattle.rules.specs.RingFile.{FileRings, ringRoom, ringsOver, RingRecord, allNodes, closedUp, ringNext, Answered, require, RingCounts, unlessRefused, readRings}
-use Rattle.rules.proofs.RingFileCalls.{read-is, closed-length}
+use Rattle.file_rules.specs.Records.{Reading, readFile}
+use Rattle.file_rules.specs.RingFile.{FileRings, ringRoom, ringsOver, RingRecord, allNodes, closedUp, ringNext, Answered, require, RingCounts, unlessRefused, readRings}
+use Rattle.file_rules.proofs.RingFileCalls.{read-is, closed-length}
 use Rattle.ring_reading.specs.Found.{counted, surveyed}
 
 -- 1 for a success

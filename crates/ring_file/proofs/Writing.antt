@@ -9,8 +9,8 @@ use lib.Dec.{leb}
 use Rattle.lists.specs.Lists.{upto, all, over}
 use Rattle.lists.specs.Buffer.{Put}
 use Rattle.geometry.specs.Reply.{refused, success}
-use Rattle.rules.specs.RingFile.{FileRings, ringRoom, ringAt, cutOut, ringFile, require, writable, every, writeRings}
-use Rattle.rules.proofs.RingFileCalls.{sent, sending, write-is}
+use Rattle.file_rules.specs.RingFile.{FileRings, ringRoom, ringAt, cutOut, ringFile, require, writable, every, writeRings}
+use Rattle.file_rules.proofs.RingFileCalls.{sent, sending, write-is}
 use Rattle.ring_writing.specs.Rings.{bytesAt, writableAt, sizesAt}
 use Rattle.ring_writing.proofs.Places.{bytes-size}
 use Rattle.ring_reading.proofs.Lists.{written-front}

@@ -2,7 +2,7 @@
 use Prim.Native.Nat.{ℕ}
 use mathlib.Core.List.{List}
 use Rattle.geometry.specs.Reply.{refused, success}
-use Rattle.rules.specs.RingFile.{FileRings, Answered, RingCounts}
+use Rattle.file_rules.specs.RingFile.{FileRings, Answered, RingCounts}
 use Rattle.ring_reading.specs.Found.{numberOf}
 use Rattle.ring_file.specs.declared.RingsWritten.{RingsWritten}
 use Rattle.ring_file.specs.declared.RingsWritten.the-variants as written

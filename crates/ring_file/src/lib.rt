@@ -3,7 +3,7 @@
 // of node numbers; it is as long as the shortest of the four.
 ghost use mathlib.Core.Path.{_≡_};
 ghost use Prim.Native.Nat.{min};
-ghost use Rattle.rules.specs.RingFile.{lent, writeRings, readRings};
+ghost use Rattle.file_rules.specs.RingFile.{lent, writeRings, readRings};
 ghost use Rattle.ring_file.specs.Answers.{writtenOf, readOf};
 use ring_reading::RingFileRefusal;
 use ring_reading::Survey;

@@ -6,10 +6,10 @@ use Rattle.rules.specs.Limits.{limits}
 use Rattle.rules.specs.State.{State}
 use Rattle.rules.specs.Adding.{Nothing}
 use Rattle.adding.specs.Outcomes.{Ready}
-use Rattle.intake.specs.Taking.{takeFile}
+use Rattle.taking.specs.Taking.{takeFile}
 use Rattle.map_steps.specs.Stands.{Stands}
-use Rattle.byte_listing.specs.File.{emptyGraph}
-use Rattle.byte_listing.proofs.Texts.{put-within}
+use Rattle.taken_text.specs.File.{emptyGraph}
+use Rattle.taken_text.proofs.Texts.{put-within}
 use Rattle.ring_output.specs.Output.{Tells, TellsTaken, Writes, Ends}
 use Rattle.ring_output.specs.declared.Output.{Output}
 use Rattle.ring_output.specs.declared.Output.the-variants.{File, Refusal, Failed}

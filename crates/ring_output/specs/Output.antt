@@ -8,9 +8,9 @@ use Rattle.lists.specs.Buffer.{Put}
 use Rattle.rules.specs.Limits.{limits}
 use Rattle.rules.specs.State.{State}
 use Rattle.rules.specs.Adding.{Nothing}
-use Rattle.rules.specs.Lines.{refusalLine}
-use Rattle.intake.specs.Taking.{Taking, takeFile}
-use Rattle.byte_listing.specs.File.{emptyGraph}
+use Rattle.file_rules.specs.Lines.{refusalLine}
+use Rattle.taking.specs.Taking.{Taking, takeFile}
+use Rattle.taken_text.specs.File.{emptyGraph}
 use Rattle.ring_steps.specs.File.{mapFile}
 use Rattle.ring_output.specs.declared.Output.{Output}
 use Rattle.ring_output.specs.declared.Output.the-variants.{File, Refusal, Failed}

@@ -7,7 +7,7 @@ use lib.Signed.{mag}
 use mir.Syntax.{w64}
 use mir.Val.{SFits, toZ, ofZ}
 use mir.Facts.{toZ-pos, toZ-neg}
-use Rattle.rules.proofs.Signs.{back}
+use Rattle.file_rules.proofs.Signs.{back}
 
 -- a turned sign
 minus : (k : ℕ) → pos 0 -ℤ pos k ≡ negℤ (pos k)

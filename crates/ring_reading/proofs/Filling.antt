@@ -8,9 +8,9 @@ use lib.Seq.{drop-drop}
 use Rattle.lists.specs.Lists.{upto, over}
 use Rattle.lists.specs.Buffer.{written}
 use Rattle.lists.proofs.Buffers.{written-row}
-use Rattle.rules.specs.Records.{littleEndian, field, taken, passed, readFile}
-use Rattle.rules.specs.RingFile.{FileRing, FileRings, ringRoom, ringsOver, RingRecord, allNodes, closedUp, ringNext}
-use Rattle.rules.proofs.RingFileCalls.{closed-length}
+use Rattle.file_rules.specs.Records.{littleEndian, field, taken, passed, readFile}
+use Rattle.file_rules.specs.RingFile.{FileRing, FileRings, ringRoom, ringsOver, RingRecord, allNodes, closedUp, ringNext}
+use Rattle.file_rules.proofs.RingFileCalls.{closed-length}
 use Rattle.ring_reading.specs.Found.{ringOf}
 use Rattle.ring_reading.specs.Taken.{wordsFrom, entryOf}
 use Rattle.ring_reading.proofs.Progress.{nodes-more, nodes-count, Surveying, survey-start, survey-ring, survey-passed, survey-holds}

@@ -9,8 +9,8 @@ use Rattle.lists.specs.Lists.{upto, over}
 use Rattle.lists.specs.Buffer.{written}
 use Rattle.lists.proofs.Buffers.{written-length, written-row, written-byte}
 use Rattle.lists.proofs.Members.{length-upto}
-use Rattle.rules.specs.Records.{field}
-use Rattle.rules.specs.RingFile.{FileRing, RingRecord, allNodes, closedUp}
+use Rattle.file_rules.specs.Records.{field}
+use Rattle.file_rules.specs.RingFile.{FileRing, RingRecord, allNodes, closedUp}
 use Rattle.ring_reading.specs.Taken.{wordsFrom}
 
 -- a ring by its record, its node numbers from a place on

@@ -9,9 +9,9 @@ use lib.Seq.{drop-drop}
 use Rattle.lists.specs.Lists.{upto}
 use Rattle.lists.proofs.Members.{length-upto}
 use Rattle.geometry.specs.Reply.{refused, success}
-use Rattle.rules.specs.Records.{field, Found, taken, passed, wrong, end, Reading, onward, readFile}
-use Rattle.rules.specs.RingFile.{RingRecord, allNodes, ringIn, ringNext}
-use Rattle.rules.proofs.ReadingLaws.{read-step}
+use Rattle.file_rules.specs.Records.{field, Found, taken, passed, wrong, end, Reading, onward, readFile}
+use Rattle.file_rules.specs.RingFile.{RingRecord, allNodes, ringIn, ringNext}
+use Rattle.file_rules.proofs.ReadingLaws.{read-step}
 use Rattle.ring_reading.specs.Found.{ringOf, counted, surveyed}
 use Rattle.frames.proofs.FrameLaws.{Within, next-within}
 

@@ -12,12 +12,12 @@ use Rattle.lists.specs.Lists.{bit, upto, In}
 use Rattle.lists.proofs.Counts.{by-lt}
 use Rattle.lists.proofs.Members.{count-upto}
 use Rattle.lists.proofs.Rising.{map-agree}
-use Rattle.rules.specs.Records.{littleEndian, field, Found, taken, passed, wrong, wrongLength, frame, told, byKind, readNext}
-use Rattle.rules.specs.RingFile.{ringIn, ringNext}
-use Rattle.rules.proofs.ByteLaws.{field-within}
-use Rattle.rules.proofs.ReadingLaws.{framed-taken}
-use Rattle.rules.proofs.RingFileLaws.{ringWith}
-use Rattle.rules.proofs.RingFileWritten.{ring-long}
+use Rattle.file_rules.specs.Records.{littleEndian, field, Found, taken, passed, wrong, wrongLength, frame, told, byKind, readNext}
+use Rattle.file_rules.specs.RingFile.{ringIn, ringNext}
+use Rattle.file_rules.proofs.ByteLaws.{field-within}
+use Rattle.file_rules.proofs.ReadingLaws.{framed-taken}
+use Rattle.file_rules.proofs.RingFileLaws.{ringWith}
+use Rattle.file_rules.proofs.RingFileWritten.{ring-long}
 use Rattle.ring_reading.specs.Found.{ringOf}
 
 -- members of a count

@@ -7,8 +7,8 @@ use mir.Syntax.{w64}
 use mir.Val.{toZ}
 use Rattle.lists.specs.Lists.{upto}
 use Rattle.geometry.specs.Reply.{Reply, refused, success}
-use Rattle.rules.specs.Records.{field, Found, taken, passed, wrong, end, Reading}
-use Rattle.rules.specs.RingFile.{RingRecord, allNodes, RingCounts}
+use Rattle.file_rules.specs.Records.{field, Found, taken, passed, wrong, end, Reading}
+use Rattle.file_rules.specs.RingFile.{RingRecord, allNodes, RingCounts}
 use Rattle.frames.specs.Frames as frames
 use Rattle.ring_reading.specs.declared.RingFileRefusal.{RingFileRefusal}
 use Rattle.ring_reading.specs.declared.RingFileRefusal.the-variants.{Frame, Ring, Room}

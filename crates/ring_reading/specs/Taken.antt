@@ -5,8 +5,8 @@ use lib.ListN.{set}
 use mir.Syntax.{w64}
 use mir.Val.{toZ}
 use Rattle.lists.specs.Lists.{upto}
-use Rattle.rules.specs.Records.{field}
-use Rattle.rules.specs.RingFile.{FileRing, FileRings}
+use Rattle.file_rules.specs.Records.{field}
+use Rattle.file_rules.specs.RingFile.{FileRing, FileRings}
 
 -- so many 16-bit numbers from a place on
 abbrev pub wordsFrom : List ℕ → ℕ → ℕ → List ℕ

@@ -1,10 +1,10 @@
 // Rings out of the bytes of a file: what a place holds, how many rings and nodes there are, and the
 // rings into lent lists.
 ghost use mathlib.Core.Path.{_≡_};
-ghost use Prim.Native.Nat.{_+_, _≤_};
-ghost use lib.ListN.{length, drop};
-ghost use Rattle.rules.specs.Records.{taken, frame, readFile};
-ghost use Rattle.rules.specs.RingFile.{ringNext};
+ghost use Prim.Native.Nat.{_+_};
+ghost use lib.ListN.{drop};
+ghost use Rattle.file_rules.specs.Records.{taken, frame, readFile};
+ghost use Rattle.file_rules.specs.RingFile.{ringNext};
 ghost use Rattle.ring_reading.specs.Found.{numberOf, foundOf, surveyOf, surveyed};
 use frames::FileRefusal;
 use frames::Frame;

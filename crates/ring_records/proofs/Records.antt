@@ -16,9 +16,9 @@ use Rattle.lists.proofs.Rising.{flatten-agree}
 use Rattle.lists.proofs.Sums.{sum-append}
 use Rattle.rules.specs.Face.{Ring}
 use Rattle.rules.specs.Limits.{limits}
-use Rattle.rules.specs.Lines.{startingNodes}
+use Rattle.file_rules.specs.Lines.{startingNodes}
 use Rattle.rules.specs.Listing.{noRing}
-use Rattle.rules.specs.RingFile.{FileRings, RingRecord, lent, ringAt, cutOut, ringBytes}
+use Rattle.file_rules.specs.RingFile.{FileRings, RingRecord, lent, ringAt, cutOut, ringBytes}
 use Rattle.ring_writing.specs.Rings.{bytesAt, writableAt, sizesAt}
 use Rattle.ring_lists.specs.Shown.{HalfOf, passed}
 use Rattle.ring_lists.proofs.Written.{passed-next}

@@ -5,8 +5,8 @@ use Rattle.rules.specs.Face.{Ring, faceNumber}
 use Rattle.rules.specs.Limits.{Limits}
 use Rattle.rules.specs.State.{State}
 use Rattle.rules.specs.Ringing.{ringsOf}
-use Rattle.rules.specs.Lines.{startingNodes}
-use Rattle.rules.specs.RingFile.{RingRecord, ringFile}
+use Rattle.file_rules.specs.Lines.{startingNodes}
+use Rattle.file_rules.specs.RingFile.{RingRecord, ringFile}
 
 -- a ring's record: its face number, its doubled area, and the nodes where its half-edges start
 abbrev pub recordOf : List ℕ → List Ring → Ring → RingRecord

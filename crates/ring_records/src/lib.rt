@@ -8,7 +8,7 @@ ghost use Rattle.lists.specs.Lists.{over};
 ghost use Rattle.lists.specs.Buffer.{Put};
 ghost use Rattle.rules.specs.Face.{Ring};
 ghost use Rattle.rules.specs.Limits.{limits};
-ghost use Rattle.rules.specs.Lines.{startingNodes};
+ghost use Rattle.file_rules.specs.Lines.{startingNodes};
 ghost use Rattle.ring_records.specs.File.{fileOf, fileRoom};
 ghost use Rattle.ring_records.specs.Given.{Halves, Listed};
 use ring_lists::doubled_area;

@@ -1,8 +1,8 @@
 -- The side of a ring, read back from its number and its area.
 use Prim.Native.Nat.{ℕ, zero, suc, _<_, _≤_}
 use native.Mathlib.Omega.{arith}
-use mathlib.Core.Path.{_≡_, refl, ap, ap₂, _∙_}
-use mathlib.Core.Bool.{cond, false, _&&_}
+use mathlib.Core.Path.{_≡_, refl, ap, ap₂}
+use mathlib.Core.Bool.{cond, _&&_}
 use mathlib.Core.List.{List}
 use lib.Dec.{ltb}
 use lib.Ieee.{Float, nan}
@@ -10,9 +10,9 @@ use lib.ListN.{length, getD}
 use borrow.Author.Tests.{lt-ltb, le-ltb}
 use Rattle.lists.proofs.Tests.{no-right}
 use Rattle.rules.specs.Ringing.{sideNumber, sideArea}
-use Rattle.rings.specs.Sides.{sideOf}
-use Rattle.rings.specs.declared.side.RingSide.{RingSide}
-use Rattle.rings.specs.declared.side.RingSide.the-variants.{Enclosed, Open, Flat}
+use Rattle.ring_tally.specs.Sides.{sideOf}
+use Rattle.ring_tally.specs.declared.side.RingSide.{RingSide}
+use Rattle.ring_tally.specs.declared.side.RingSide.the-variants.{Enclosed, Open, Flat}
 use Rattle.ring_sides.specs.Sides.{sideFrom, sideAt}
 use Rattle.ring_sides.specs.declared.SideReply.the-variants.{Side, Refused}
 use Rattle.ring_sides.specs.declared.NoSide.the-variants.{PastLists, OtherNumber}

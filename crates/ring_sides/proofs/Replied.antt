@@ -19,7 +19,7 @@ use Rattle.rules.proofs.Claims.{each-at}
 use Rattle.rules.proofs.Histories.{fine-limits}
 use Rattle.rules.proofs.Replies.{over-front, rings-of-halves, ring-step-passed}
 use Rattle.rules.proofs.ExtractionLaws.{extraction-rules}
-use Rattle.rings.specs.Sides.{sideOf, sideIn, numberIn, shownIn}
+use Rattle.ring_tally.specs.Sides.{sideOf, sideIn, numberIn, shownIn}
 use Rattle.rings.proofs.Meaning.{sides-exact, sides-replied}
 use Rattle.hole_entry.specs.Clause.{Extracts}
 use Rattle.ring_sides.specs.Sides.{sideAt, sideFrom}

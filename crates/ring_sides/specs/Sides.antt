@@ -5,11 +5,9 @@ use mathlib.Core.List.{List}
 use lib.Dec.{ltb}
 use lib.Ieee.{Float, nan}
 use lib.ListN.{length, getD}
-use Rattle.rings.specs.declared.side.RingSide.{RingSide}
-use Rattle.rings.specs.declared.side.RingSide.the-variants.{Enclosed, Open, Flat}
+use Rattle.ring_tally.specs.declared.side.RingSide.the-variants.{Enclosed, Open, Flat}
 use Rattle.ring_sides.specs.declared.SideReply.{SideReply}
 use Rattle.ring_sides.specs.declared.SideReply.the-variants.{Side, Refused}
-use Rattle.ring_sides.specs.declared.NoSide.{NoSide}
 use Rattle.ring_sides.specs.declared.NoSide.the-variants.{PastLists, OtherNumber}
 
 -- 0 is flat, which carries no area, 1 enclosed with its area, 2 open with its area; no other number is a side

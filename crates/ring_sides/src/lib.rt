@@ -1,7 +1,7 @@
 // The side of a ring, read back from the lists that ring extraction replied.
 ghost use mathlib.Core.Path.{_≡_};
 ghost use Rattle.ring_sides.specs.Sides.{sideAt};
-use rings::RingSide;
+use ring_tally::RingSide;
 
 // Why there is no side: the lists end before the place, or they hold a number there that says none.
 pub enum NoSide {

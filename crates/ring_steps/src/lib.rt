@@ -30,7 +30,7 @@ fn put_cut(
     let mut ring_face = [0u16; MAX_HALF_EDGES];
     let mut ring_side = [0u8; MAX_HALF_EDGES];
     let mut ring_area = [0.0f64; MAX_HALF_EDGES];
-    let rings = map_steps::ring_map(
+    let rings = map_rings::ring_map(
         graph,
         floats,
         numbers,

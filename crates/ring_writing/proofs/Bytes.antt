@@ -14,12 +14,12 @@ use mir.Syntax.{w64}
 use mir.Val.{ofZ}
 use borrow.Author.Tests.{ltb-true}
 use Rattle.lists.specs.Lists.{flatten}
-use Rattle.rules.proofs.ByteLaws.{length-words}
+use Rattle.file_rules.proofs.ByteLaws.{length-words}
 use Rattle.ring_writing.specs.Rings.{nodesIn}
 use lib.Pow.{field}
 use Rattle.lists.specs.Buffer.{Put}
 use Rattle.lists.proofs.Buffers.{written-byte, left-all, left-put, left-last}
-use Rattle.rules.specs.Records.{littleBytes}
+use Rattle.file_rules.specs.Records.{littleBytes}
 
 -- one text and then another
 pub put-row : {at : ℕ} {a b old mid new : List ℕ} {p q : ℕ} → at + length (a ++ b) ≤ length old → Put at a old mid p → Put p b mid new q → Put at (a ++ b) old new q

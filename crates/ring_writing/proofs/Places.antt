@@ -13,8 +13,8 @@ use Rattle.lists.specs.Lists.{upto, all}
 use Rattle.lists.proofs.Searching.{upto-at}
 use Rattle.lists.proofs.Members.{length-upto}
 use Rattle.lists.proofs.Tests.{both}
-use Rattle.rules.specs.RingFile.{FileRings, ringAt, cutOut, ringBytes}
-use Rattle.rules.proofs.RingFileLaws.{length-ring}
+use Rattle.file_rules.specs.RingFile.{FileRings, ringAt, cutOut, ringBytes}
+use Rattle.file_rules.proofs.RingFileLaws.{length-ring}
 use Rattle.ring_writing.specs.Rings.{bytesAt, writableAt, sizesAt}
 use Rattle.ring_writing.proofs.Bytes.{nodes-length}
 

@@ -8,8 +8,8 @@ use lib.Dec.{ltb, leb}
 use mir.Syntax.{w64}
 use mir.Val.{ofZ}
 use Rattle.lists.specs.Lists.{sum}
-use Rattle.rules.specs.Records.{littleBytes}
-use Rattle.rules.specs.RingFile.{FileRing, FileRings, ringAt, cutOut, ringFile}
+use Rattle.file_rules.specs.Records.{littleBytes}
+use Rattle.file_rules.specs.RingFile.{FileRing, FileRings, ringAt, cutOut, ringFile}
 
 -- so many node numbers from a place on
 abbrev pub nodesIn : List ℕ → ℕ → ℕ → List ℕ

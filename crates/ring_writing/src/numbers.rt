@@ -5,7 +5,7 @@ ghost use lib.ListN.{length};
 ghost use mir.Syntax.{w64};
 ghost use mir.Val.{ofZ};
 ghost use Rattle.lists.specs.Buffer.{Put};
-ghost use Rattle.rules.specs.Records.{littleBytes};
+ghost use Rattle.file_rules.specs.Records.{littleBytes};
 
 pub fn put_u16(out: &mut [u8], at: usize, n: u16) -> usize
     requires { ⌜ at + 2 ≤ length (now out) ⌝ }

@@ -7,7 +7,7 @@ use mathlib.Core.List.{List, [], _∷_, _++_, map}
 use lib.ListN.{length, take, drop, set, length-take, length-drop, length-map}
 use lib.Seq.{sets, take-set-le, take-set-lt, drop-set-lt, drop-set-add}
 use lib.Ieee.{Float}
-use Rattle.rings.specs.Keys.{bitsFrom, keyPut, keysPut, Keyed}
+use Rattle.ring_tally.specs.Keys.{bitsFrom, keyPut, keysPut, Keyed}
 use Rattle.rings.proofs.Entries.{over-sets}
 
 module _ (m : ℕ) (source : List ℕ) (xs ys : List Float) where

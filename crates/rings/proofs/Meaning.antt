@@ -18,10 +18,10 @@ use Rattle.rules.specs.Ringing.{Side, ringReplies, ringsOf, floatArea, areaIn, 
 use Rattle.rules.proofs.Areas.{exact-areas}
 use Rattle.rules.proofs.Replies.{take-at-start, over-front, rings-of-halves}
 use Rattle.rings.specs.Listing.{firstPlaces, sizeOf, ringAt, RingRows, RowsRoom, Listed}
-use Rattle.rings.specs.Sides.{sideOf, signSide, sideIn, numberIn, shownIn}
+use Rattle.ring_tally.specs.Sides.{sideOf, signSide, sideIn, numberIn, shownIn}
 use Rattle.rings.proofs.Rows.{length-places}
 use Rattle.rings.proofs.Bounds.{areas-small}
-use Rattle.rings.proofs.Siding.{side-exact}
+use Rattle.ring_tally.proofs.Siding.{side-exact}
 
 -- ---- the rings read back
 

@@ -24,12 +24,12 @@ use Rattle.rules.proofs.Sweep.{Swept, sweep, sweep-new, sweep-inactive, sweep-h
 use Rattle.rules.proofs.Permuting.{permutes-same, cycles-agree}
 use Rattle.rules.proofs.Rings.{minimal-rings-are, split-permutes}
 use Rattle.stars.specs.Groups.{unmarked}
-use Rattle.rings.specs.Keys.{keysY, keysPut, Keyed}
-use Rattle.rings.specs.Tallies.{tallyOf}
-use Rattle.rings.specs.Sides.{numberIn, shownIn}
+use Rattle.ring_tally.specs.Keys.{keysY, keysPut, Keyed}
+use Rattle.ring_tally.specs.Tallies.{tallyOf}
+use Rattle.ring_tally.specs.Sides.{numberIn, shownIn}
 use Rattle.splitting.specs.Splits.{entryOf}
 use Rattle.rings.specs.Listing.{tableRings, firstPlaces, sizeOf, RingRows, rowPut, RowsRoom, stampedAt, WalkedRing, Listed}
-use Rattle.rings.specs.declared.tally.Tally.{Tally}
+use Rattle.ring_tally.specs.declared.tally.Tally.{Tally}
 use Rattle.rings.proofs.Entries.{over-set, over-sets}
 use Rattle.rings.proofs.Keying.{keys-more, keys-stand}
 

@@ -15,10 +15,10 @@ use Rattle.rules.specs.Sane.{Live, Permutes}
 use Rattle.rules.specs.Ringing.{sumIn}
 use Rattle.rules.proofs.CycleLaws.{cycle-self}
 use Rattle.rules.proofs.Marking.{cycle-next, walk-on, walk-end}
-use Rattle.rings.specs.Keys.{keysY, keyPut, keysPut}
-use Rattle.rings.specs.Tallies.{takenAt, tallyOf}
+use Rattle.ring_tally.specs.Keys.{keysY, keyPut, keysPut}
+use Rattle.ring_tally.specs.Tallies.{takenAt, tallyOf}
 use Rattle.rings.specs.Listing.{stampedAt, WalkedRing}
-use Rattle.rings.specs.declared.tally.Tally.{Tally}
+use Rattle.ring_tally.specs.declared.tally.Tally.{Tally}
 
 module _ (f : ℕ → ℕ) (n start at : ℕ) (source : List ℕ) (xs ys : List Float) (seen₀ : List Bool) (rows₀ keys₀ : List ℕ) where
   -- at `cur`: it is in the ring, and what is left to do from there gives what the whole walk gives

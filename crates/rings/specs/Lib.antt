@@ -1,5 +1,2 @@
--- What walking, keys, tallies and the sides of rings ask and leave, over the tables.
-pub mod Keys
-pub mod Tallies
-pub mod Sides
+-- What walking rings asks and leaves, over the tables.
 pub mod Listing

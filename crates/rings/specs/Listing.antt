@@ -14,10 +14,10 @@ use Rattle.rules.specs.Limits.{Limits}
 use Rattle.rules.specs.Ringing.{sideNumber, sideArea}
 use Rattle.stars.specs.Groups.{unmarked}
 use Rattle.splitting.specs.Splits.{entryOf}
-use Rattle.rings.specs.Keys.{keysY, keysPut}
-use Rattle.rings.specs.Tallies.{tallyOf, Sited, Takable}
-use Rattle.rings.specs.Sides.{sideOf, signSide, numberIn, shownIn}
-use Rattle.rings.specs.declared.tally.Tally.{Tally}
+use Rattle.ring_tally.specs.Keys.{keysY, keysPut}
+use Rattle.ring_tally.specs.Tallies.{tallyOf, Sited, Takable}
+use Rattle.ring_tally.specs.Sides.{sideOf, signSide, numberIn, shownIn}
+use Rattle.ring_tally.specs.declared.tally.Tally.{Tally}
 
 -- every ring once, by its lowest half-edge and beginning with it
 abbrev pub tableRings : ℕ → List ℕ → List Bool → List (List ℕ)

@@ -90,14 +90,6 @@ pub mod AddingSound
 pub mod Staying
 pub mod Sparing
 pub mod Going
--- signed numbers of 64 bits by their bits
-pub mod Signs
--- files of records
-pub mod ByteLaws
-pub mod ReadingLaws
-pub mod RingFileLaws
-pub mod RingFileWritten
-pub mod RingFileCalls
 -- files as calls
 pub mod Filing
 pub mod FileFloats

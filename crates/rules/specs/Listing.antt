@@ -9,7 +9,7 @@ use Rattle.rules.specs.Euler.{census}
 use Rattle.rules.specs.State.{State, arrangement}
 use Rattle.rules.specs.Stages.{sortedState, danglesOf, prunedState, cutsOf, cutState}
 use Rattle.rules.specs.Ringing.{ringsOf}
-use Rattle.rules.specs.Lines.{headLine, startingNodes, ringLine}
+use Rattle.file_rules.specs.Lines.{headLine, startingNodes, ringLine}
 
 -- ---- the rings
 

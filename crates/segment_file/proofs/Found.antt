@@ -9,8 +9,8 @@ use lib.Dec.{eqb}
 use lib.Ieee.{binary64, ofBits}
 use lib.ListN.{length, take, drop, length-drop}
 use Rattle.geometry.specs.declared.Line3D.{Line3D}
-use Rattle.rules.specs.Records.{field, Found, taken, passed, wrong, end, pickFound, wrongLength, knownKind, wholeFrame, frame, told, byKind, readNext}
-use Rattle.rules.specs.SegmentFile.{coordAt, segmentIn, segmentNext}
+use Rattle.file_rules.specs.Records.{field, Found, taken, passed, wrong, end, pickFound, wrongLength, knownKind, wholeFrame, frame, told, byKind, readNext}
+use Rattle.file_rules.specs.SegmentFile.{coordAt, segmentIn, segmentNext}
 use Rattle.frames.proofs.Bytes.{field-in}
 use Rattle.frames.proofs.Cases.{frame-none, frame-short, frame-whole}
 use Rattle.frames.proofs.FrameLaws.{Framed, frame-there, Within, next-within, next-more}

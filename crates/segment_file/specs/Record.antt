@@ -3,8 +3,8 @@ use Prim.Native.Nat.{ℕ, _+_}
 use mathlib.Core.List.{List}
 use Rattle.geometry.specs.declared.Line3D.{Line3D}
 use Rattle.frames.specs.Frames.{numberOf}
-use Rattle.rules.specs.Records.{field, Found, taken, passed, wrong, end}
-use Rattle.rules.specs.SegmentFile.{coordAt}
+use Rattle.file_rules.specs.Records.{field, Found, taken, passed, wrong, end}
+use Rattle.file_rules.specs.SegmentFile.{coordAt}
 use Rattle.segment_file.specs.declared.Record.{Record}
 use Rattle.segment_file.specs.declared.Record.the-variants.{Segment, Passed, End, Refused}
 

@@ -8,8 +8,8 @@ use lib.ListN.{take, drop, set, replicate}
 use lib.IntN.{pos}
 use lib.Ieee.{Float, nan, inf, fin}
 use Rattle.geometry.specs.declared.Line3D.{Line3D}
-use Rattle.rules.specs.Records.{Found, taken, passed, wrong, end}
-use Rattle.rules.specs.SegmentFile.{segmentNext}
+use Rattle.file_rules.specs.Records.{Found, taken, passed, wrong, end}
+use Rattle.file_rules.specs.SegmentFile.{segmentNext}
 
 -- length 54, kind 1, line id 1, from (0, 0, 0) to (4, 0, 0); the bits of 4.0 are 0x4010_0000_0000_0000
 abbrev bytes : List ℕ

@@ -4,7 +4,7 @@ ghost use mathlib.Core.Path.{_≡_};
 ghost use Prim.Native.Nat.{_+_, _≤_};
 ghost use lib.ListN.{length, drop};
 ghost use lib.Ieee.{binary64, ofBits};
-ghost use Rattle.rules.specs.SegmentFile.{coordAt, segmentNext};
+ghost use Rattle.file_rules.specs.SegmentFile.{coordAt, segmentNext};
 ghost use Rattle.segment_file.specs.Record.{lineAt, readOf};
 use frames::FileRefusal;
 use frames::Frame;

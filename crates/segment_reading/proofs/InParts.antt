@@ -7,9 +7,9 @@ use mathlib.Core.List.{List, [], _++_, append-assoc}
 use lib.ListN.{length, drop, length-append}
 use Rattle.rules.specs.Limits.{limits}
 use Rattle.rules.specs.State.{State}
-use Rattle.intake.specs.Taking.{Taking, behind, takeFile, waits}
-use Rattle.intake.proofs.Turns.{behind-none, behind-more}
-use Rattle.intake.proofs.Parts.{in-parts}
+use Rattle.taking.specs.Taking.{Taking, behind, takeFile, waits}
+use Rattle.taking.proofs.Turns.{behind-none, behind-more}
+use Rattle.taking.proofs.Parts.{in-parts}
 
 -- All bytes that came so far: whatever follows them, what they come to with it is what was taken, and then what was kept comes to with it.
 pub record Gone (s : State) (records total : ℕ) (kept : List ℕ) (now : State) : Type 0 where

@@ -1,2 +1,2 @@
--- What the functions that read a segment file as it comes ask and leave.
+-- What reading a segment file as it comes leaves.
 pub mod Reading

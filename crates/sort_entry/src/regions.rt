@@ -26,7 +26,7 @@ pub fn sort_region(
     ensures star { λ _. ⌜ starTableIn limits (now (stars .exit)) ≡ sortedTable (graph .«node_count») (graph .«edge_count») (xsIn limits (now (floats .entry))) (ysIn limits (now (floats .entry))) (sourcesIn limits (now (numbers .entry))) (targetsIn limits (now (numbers .entry))) (starTableIn limits (now (stars .entry))) ⌝ }
     ensures degrees { λ _. ⌜ degreesIn limits (now (stars .exit)) ≡ degreesIn limits (now (stars .entry)) ⌝ }
 {
-    stars::sort_stars(
+    star_sorting::sort_stars(
         graph,
         &floats[0..NODES_Y],
         &floats[NODES_Y..NODES_Z],

@@ -8,8 +8,8 @@
 // each label, the one that is reached cyclically, and in the second pass the first one from the place
 // on. Where a ring passes a node once that is its only way on, and nothing changes.
 ghost use mathlib.Core.Path.{_≡_};
-ghost use Prim.Native.Nat.{ℕ, _*_, _<_, _≤_};
-ghost use lib.ListN.{length, getD};
+ghost use Prim.Native.Nat.{ℕ, _*_, _<_};
+ghost use lib.ListN.{length};
 ghost use Rattle.lists.specs.Lists.{In, pick};
 ghost use Rattle.rules.specs.HalfEdge.{twin};
 ghost use Rattle.rules.specs.Limits.{limits};

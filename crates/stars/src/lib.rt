@@ -1,10 +1,7 @@
-// The flat star table: its stars grouped by node, and every star put into angular order; and which
-// half-edges of a star are active.
+// The flat star table: its stars grouped by node; and which half-edges of a star are active.
 mod group;
-mod sort;
 
 pub use group::group_stars;
-pub use sort::sort_stars;
 ghost use mathlib.Core.Path.{_≡_};
 ghost use Prim.Native.Nat.{_<_};
 ghost use lib.ListN.{length};

@@ -3,7 +3,7 @@ use Prim.Native.Nat.{ℕ}
 use mathlib.Core.List.{List, [], _∷_}
 use Rattle.rules.specs.Limits.{limits}
 use Rattle.rules.specs.Adding.{Nothing}
-use Rattle.file_entry.specs.FileAdding.{Records, addRecords}
+use Rattle.file_taking.specs.FileAdding.{Records, addRecords}
 use Rattle.replies.specs.Left.{Lent, heldIn, Left, asked}
 
 -- how many records were taken, and the number of what ended it

@@ -1,3 +1,2 @@
 -- What the entries on segment files leave.
-pub mod Reading
 pub mod Calls

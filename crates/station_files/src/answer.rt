@@ -1,9 +1,9 @@
 // Adding a file, as a number with the small state and the values written on success.
-ghost use Rattle.file_entry.specs.Replies.{fileReply};
+ghost use Rattle.file_taking.specs.Replies.{fileReply};
 ghost use Rattle.replies.specs.Lent.{Answered};
 ghost use Rattle.station_files.specs.Calls.{fileValues};
-use file_entry::FileAdded;
-use file_entry::FileReply;
+use file_taking::FileAdded;
+use file_taking::FileReply;
 use replies::STATE_LENGTH;
 use replies::write_state;
 use tables::refusal_number;

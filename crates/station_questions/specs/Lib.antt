@@ -1,2 +1,3 @@
 -- What the questions leave.
 pub mod Questions
+pub mod Reading

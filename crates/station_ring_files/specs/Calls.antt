@@ -2,7 +2,7 @@
 use Prim.Native.Nat.{ℕ}
 use mathlib.Core.List.{List, [], _∷_}
 use Rattle.geometry.specs.Reply.{Reply, refused, success}
-use Rattle.rules.specs.RingFile.{Answered, RingCounts}
+use Rattle.file_rules.specs.RingFile.{Answered, RingCounts}
 
 -- the number answered, the lists that were lent to be written, and the values of the reply
 pub record Gave (L : Type 0) : Type 0 where

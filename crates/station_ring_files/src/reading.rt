@@ -1,6 +1,6 @@
 // Reading a ring file, for a caller that hands over numbers and slices.
 ghost use mathlib.Core.Path.{_≡_};
-ghost use Rattle.rules.specs.RingFile.{lent, readRings};
+ghost use Rattle.file_rules.specs.RingFile.{lent, readRings};
 ghost use Rattle.station_ring_files.specs.Calls.{gaveBy, gave, ringsRead};
 use ring_file::RingsRead;
 use ring_reading::ring_file_number;

@@ -1,6 +1,6 @@
 // Writing a ring file, for a caller that hands over numbers and slices.
 ghost use mathlib.Core.Path.{_≡_};
-ghost use Rattle.rules.specs.RingFile.{lent, writeRings};
+ghost use Rattle.file_rules.specs.RingFile.{lent, writeRings};
 ghost use Rattle.station_ring_files.specs.Calls.{gaveBy, gave, bytesWritten};
 use ring_file::RingsWritten;
 use ring_reading::ring_file_number;

@@ -1,11 +1,7 @@
-// The steps before rings and the way back, for a station that is written in Rust: entries on numbers
-// and slices. Each answers 0, or the number of a refusal.
-mod cut;
-mod prune;
+// Sorting, and the way back, for a station that is written in Rust: entries on numbers and slices. Each
+// answers 0, or the number of a refusal.
 mod reset;
 mod sort;
 
-pub use cut::tukmiheb_delete_cut_edges;
-pub use prune::tukmiheb_prune_dangles;
 pub use reset::tukmiheb_reset;
 pub use sort::tukmiheb_sort_edges;

@@ -1,8 +1,4 @@
--- Laws of the tests and loops of this crate, what number 6 and number 7 give to its functions, and laws of the regions of slices.
-pub mod Testing
-pub mod Standing
-pub mod SoundTests
+-- Laws of a row written over a table, and of the regions of slices.
 pub mod Writing
-pub mod Shells
 pub mod Regions
 pub mod SliceRoom

@@ -8,9 +8,6 @@ ghost use Rattle.tables.specs.Tables.{atStage};
 
 mod ids;
 mod layout;
-mod reset;
-mod sound;
-mod starts;
 
 pub use crate::ids::DirEdgeId;
 pub use crate::ids::EdgeId;
@@ -33,10 +30,6 @@ pub use crate::layout::SEGMENTS;
 pub use crate::layout::STAR_OFFSETS;
 pub use crate::layout::STARS;
 pub use crate::layout::TARGETS;
-pub use crate::reset::clear_marks;
-pub use crate::reset::write_degrees;
-pub use crate::sound::is_sound;
-pub use crate::starts::count_starts;
 
 // The counts and the stage: 0 building, 1 sorted, 2 pruned, 3 cut, 4 ringed. The tables are lent
 // beside it.

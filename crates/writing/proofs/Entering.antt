@@ -14,7 +14,7 @@ use Rattle.rules.specs.LineIds.{Tracings, listEnd, startList, putBehind, enterI
 use Rattle.tables.specs.Tables.{stateOf}
 use Rattle.tables.specs.Regions.{xsIn, ysIn, zsIn, segmentsIn, sourcesIn, targetsIn, listPlacesIn, linksIn, starTableIn, degreesIn, nodeMarksIn, halfMarksIn, lineIdsIn, pairIdsIn, tracingsIn, stateIn}
 use Rattle.tables.specs.declared.PlanarGraph.{PlanarGraph}
-use Rattle.writing.specs.Written.{IdRoom}
+use Rattle.table_entries.specs.Written.{IdRoom}
 
 module _ (l : Limits) (k i b p : ℕ) (numbers ids : List ℕ) (r : IdRoom l k i b p numbers ids) where
   -- the lists

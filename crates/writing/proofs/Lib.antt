@@ -1,4 +1,3 @@
 -- Laws that the proofs of the functions share.
-pub mod Stores
 pub mod Nodes
 pub mod Entering

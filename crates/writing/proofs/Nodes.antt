@@ -14,7 +14,7 @@ use Rattle.tables.specs.Tables.{stateOf}
 use Rattle.tables.specs.Regions.{xsIn, ysIn, zsIn, segmentsIn, sourcesIn, targetsIn, lineIdsIn, tracingsIn, stateIn}
 use Rattle.tables.specs.declared.PlanarGraph.{PlanarGraph}
 use Rattle.tables.proofs.Regions.{region-set-inside, region-set-before, region-set-behind}
-use Rattle.writing.specs.Written.{nodeCounted}
+use Rattle.table_entries.specs.Written.{nodeCounted}
 
 module _ (l : Limits) (n : ℕ) (p : Coord3D) (few : n < l .nodes) where
   -- the coordinates, each in its region

@@ -1,9 +1,7 @@
 // Writing a new node, a new edge, and a new line id behind an edge into the five lent slices.
 mod edge;
-mod entries;
 mod ids;
 mod node;
-mod pairs;
 
 pub use edge::add_edge;
 pub use ids::enter_id;

@@ -6,7 +6,7 @@ ghost use Rattle.rules.specs.Adding.{withNode};
 ghost use Rattle.rules.specs.Limits.{limits};
 ghost use Rattle.tables.specs.Regions.{stateIn};
 ghost use Rattle.tables.specs.declared.PlanarGraph.{PlanarGraph};
-ghost use Rattle.writing.specs.Written.{nodeCounted, NodeRoom};
+ghost use Rattle.table_entries.specs.Written.{nodeCounted, NodeRoom};
 use geometry::Coord3D;
 use tables::DEGREES;
 use tables::NODES_Y;

@@ -6,13 +6,13 @@ use lib.ListN.{length}
 use borrow.Author.Tests.{lt-ltb}
 use Rattle.rules.specs.Limits.{limits}
 use Rattle.adding.specs.Outcomes.{Ready}
-use Rattle.intake.specs.Taking.{takeFile}
-use Rattle.intake.specs.Answers.{takingOf}
+use Rattle.taking.specs.Taking.{takeFile}
+use Rattle.taking.specs.Answers.{takingOf}
 use Rattle.lists.specs.Buffer.{Put}
-use Rattle.listing_steps.specs.Rooms.{listingRoom}
-use Rattle.byte_listing.specs.File.{emptyGraph, textOf, fileText}
+use Rattle.ring_lines.specs.Rooms.{listingRoom}
+use Rattle.taken_text.specs.File.{emptyGraph, textOf, fileText}
 use Rattle.byte_listing.proofs.Empty.{blank, blank-empty, empty-ready}
-use Rattle.intake.proofs.Left.{file-ready}
+use Rattle.taking.proofs.Left.{file-ready}
 use Rattle.byte_listing.proofs.Files.{ready-due, put-lists}
 use borrow.Author.Needs.{needs}
 use Rattle.byte_listing.proofs.list_bytes.Statement.{statement}

@@ -7,7 +7,7 @@ use Rattle.lists.specs.Lists.{over}
 use lib.ListN.{length}
 use Rattle.rules.specs.Stages.{markEdges}
 use Rattle.stars.proofs.Groups.{groups-within}
-use Rattle.pieces.proofs.Stars.{spreads}
+use Rattle.seeds.proofs.Stars.{spreads}
 use Rattle.cycles.proofs.Outcome.{next-permutes, rings-right, cuts-right}
 use borrow.Author.Needs.{needs}
 use Rattle.cycles.proofs.cut_grouped.Statement.{statement}

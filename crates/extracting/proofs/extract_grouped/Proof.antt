@@ -23,11 +23,11 @@ use Rattle.tables.specs.Tables.{stateOf}
 use Rattle.stars.specs.Grouped.{Grouped}
 use Rattle.stars.proofs.Sound.{sound-sortable}
 use Rattle.cycles.specs.Census.{censusOf}
-use Rattle.rings.specs.Keys.{keysY}
+use Rattle.ring_tally.specs.Keys.{keysY}
 use Rattle.rings.specs.Listing.{RingRows, rowsOf}
 use Rattle.rings.proofs.Meaning.{places-replied, sizes-replied, sides-replied}
 use Rattle.faces.specs.Numbers.{ringsAt, faceNumbers, comparisonsAt, Numberable}
-use Rattle.extracting.specs.Listing.{keysXOf, keysYOf, RingsListed}
+use Rattle.ring_listing.specs.Listing.{keysXOf, keysYOf, RingsListed}
 use Rattle.extracting.proofs.Numbering.{rings-few, flat-few, comparisons-fit, faces-replied, comparisons-replied, numberable}
 use Rattle.extracting.proofs.Outcome.{arrangement-is, held-sane, total-is, rings-many}
 use Rattle.extracting.proofs.Arranging.{sound-arranged}

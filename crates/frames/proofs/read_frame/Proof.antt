@@ -4,7 +4,7 @@ use mathlib.Core.Path.{_≡_, ap, _∙_}
 use mathlib.Core.List.{List}
 use Prim.Native.Nat.{ℕ, _-_}
 use lib.ListN.{length, drop, length-drop}
-use Rattle.rules.specs.Records.{field, wholeFrame, frame}
+use Rattle.file_rules.specs.Records.{field, wholeFrame, frame}
 use Rattle.frames.proofs.Cases.{whole-none, frame-none, frame-short, frame-whole, kind-at}
 use borrow.Author.Needs.{needs}
 use Rattle.frames.proofs.read_frame.Statement.{statement}

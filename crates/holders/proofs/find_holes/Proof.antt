@@ -12,7 +12,7 @@ use Rattle.rules.specs.State.{pointIn}
 use Rattle.rules.specs.Face.{Ring}
 use Rattle.rules.specs.Holes.{holesOf}
 use Rattle.inside.specs.Spots.{spotIn}
-use Rattle.holders.specs.Maps.{origins, Map, mapOf}
+use Rattle.holding.specs.Maps.{origins, Map, mapOf}
 use Rattle.holders.specs.Asked.{Asked, Ready}
 use Rattle.holders.proofs.Agreeing.{holes-within, whole-spots}
 use Rattle.holders.proofs.Asking.{asked-ready}

@@ -1,18 +1,19 @@
 -- `holes_of_map` meets its contract: the enclosed rings are listed and ordered, and each open one is searched for.
 use Prim.Native.Nat.{ℕ, _*_, _≤_}
 use native.Mathlib.Omega.{arith}
-use mathlib.Core.Path.{_≡_, sym, subst}
+use mathlib.Core.Path.{sym, subst}
 use mathlib.Core.List.{List}
 use lib.IntN.{ℤ, pos}
 use lib.ListN.{replicate}
 use Rattle.rules.specs.Limits.{limits, shapedRings}
 use Rattle.rules.specs.Face.{Ring}
 use Rattle.candidates.specs.Candidates.{numbersOf, Candidates}
-use Rattle.holders.specs.Maps.{Map, mapOf}
-use Rattle.holders.specs.Search.{Slanted, Field}
+use Rattle.holding.specs.Maps.{Map, mapOf}
+use Rattle.views.specs.Views.{Slanted}
+use Rattle.holder_search.specs.Search.{Field}
 use Rattle.holders.specs.Asked.{Ready, Boxable}
-use Rattle.candidates.specs.Order.{InOrder}
-use Rattle.candidates.proofs.Ordering.{row-in-order}
+use Rattle.candidate_order.specs.Order.{InOrder}
+use Rattle.candidate_order.proofs.Ordering.{row-in-order}
 use Rattle.holders.proofs.Asking.{ready-boxable, ready-field, ready-orderable}
 use borrow.Author.Needs.{needs}
 use Rattle.holders.proofs.holes_of_map.Statement.{statement}

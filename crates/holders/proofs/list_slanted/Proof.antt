@@ -1,11 +1,7 @@
 -- `list_slanted` meets its contract: the enclosed rings are listed by the table of their places in the view.
-use Prim.Native.Nat.{ℕ, _≤_}
 use native.Mathlib.Omega.{arith}
-use mathlib.Core.Path.{_≡_}
 use mathlib.Core.List.{List}
 use lib.IntN.{ℤ}
-use lib.ListN.{length}
-use Rattle.rules.specs.Limits.{limits}
 use Rattle.rules.specs.Face.{Ring}
 use Rattle.candidates.specs.Candidates.{Listable}
 use Rattle.holders.specs.Asked.{Boxable}

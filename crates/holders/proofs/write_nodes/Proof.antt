@@ -8,7 +8,7 @@ use Rattle.lists.specs.Lists.{over}
 use Rattle.lists.proofs.Entries.{getD-any}
 use Rattle.tables.proofs.Writing.{over-more, over-all}
 use Rattle.rules.specs.Holes.{ringNodes}
-use Rattle.holders.specs.Maps.{origins}
+use Rattle.holding.specs.Maps.{origins}
 use Rattle.holders.proofs.write_nodes.Statement.{statement}
 use Rattle.holders.proofs.write_nodes.Tie as tie
 

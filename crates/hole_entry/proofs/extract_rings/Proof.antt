@@ -43,8 +43,6 @@ use denote.Triple.Table.{entered, cited}
 use denote.Triple.Walked.{says, Stays, walkOf, Walks, ends-at, walked, walk-meets}
 use Rattle.holes.specs.declared.Hole.{Hole}
 use Rattle.holes.specs.Filled.{filled}
-use Rattle.holes.proofs.Hole as T
-use Rattle.holes.proofs.Hole.Laws as T′
 use Rattle.holes.proofs.Freeing.{counted, gone}
 use Rattle.holes.proofs.Handed.{all-said, all-fit, all-go}
 use Rattle.holes.proofs.Calling.{R, Records, listed, Own, Fill, to-fill, asks}

@@ -10,7 +10,7 @@ use Rattle.tables.specs.Regions.{stateIn}
 use Rattle.line_ids.specs.Free.{FreeAt}
 use Rattle.adding.proofs.Carrying.{ready-again}
 use Rattle.making.proofs.Searching.{searchable-in}
-use Rattle.indexing.proofs.Growing.{nodes-chained, halves-chained, nodes-still, halves-still, indexed-again}
+use Rattle.chaining.proofs.Growing.{nodes-chained, halves-chained, nodes-still, halves-still, indexed-again}
 use Rattle.placing.proofs.Seekable.{seekable-in}
 use Rattle.indexing.proofs.Places.{placed, free-had, free-again}
 use Rattle.indexing.proofs.add_chained.Statement.{statement}

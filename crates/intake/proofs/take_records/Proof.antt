@@ -5,7 +5,7 @@ use Rattle.rules.specs.Limits.{limits}
 use Rattle.tables.specs.Regions.{stateIn}
 use Rattle.making.proofs.Searching.{searchable-in}
 use Rattle.lookup.specs.Codes.{nodeHeads, halfHeads}
-use Rattle.indexing.proofs.Growing.{zeros, zeros-long, still-long}
+use Rattle.chaining.proofs.Growing.{zeros, zeros-long, still-long}
 use Rattle.indexing.proofs.Places.{markable-in, free-made}
 use borrow.Author.Needs.{needs}
 use Rattle.intake.proofs.take_records.Statement.{statement}

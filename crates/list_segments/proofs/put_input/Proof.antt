@@ -1,20 +1,19 @@
 -- `put_input` meets its contract: the tables hold zeros, so what was read is what its bytes come to from the empty graph.
-use mathlib.Core.Path.{_≡_, refl, sym, ap, subst, _∙_}
-use mathlib.Core.Bool.{false}
+use mathlib.Core.Path.{_≡_, sym, ap, subst, _∙_}
 use mathlib.Core.List.{List}
 use Prim.Native.Nat.{ℕ}
 use lib.Ieee.{ofBits}
 use Rattle.rules.specs.Limits.{limits}
 use Rattle.tables.specs.Regions.{stateIn}
 use Rattle.adding.specs.Outcomes.{Ready}
-use Rattle.intake.specs.Taking.{Taking, takeFile}
-use Rattle.intake.specs.Answers.{replyOf}
+use Rattle.taking.specs.Taking.{Taking, takeFile}
+use Rattle.taking.specs.Answers.{replyOf}
 use Rattle.lists.specs.Buffer.{Put}
-use Rattle.byte_listing.specs.File.{emptyGraph, textOf}
+use Rattle.taken_text.specs.File.{emptyGraph, textOf}
 use Rattle.byte_listing.proofs.Empty.{blank, blank-empty, empty-ready}
-use Rattle.intake.proofs.Left.{file-ready}
+use Rattle.taking.proofs.Left.{file-ready}
 use Rattle.byte_listing.proofs.Files.{ready-due}
-use Rattle.byte_listing.proofs.Texts.{put-within}
+use Rattle.taken_text.proofs.Texts.{put-within}
 use borrow.Author.Needs.{needs}
 use Rattle.list_segments.proofs.put_input.Statement.{statement}
 use Rattle.list_segments.proofs.put_input.Tie as tie

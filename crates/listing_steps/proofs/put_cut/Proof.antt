@@ -10,10 +10,10 @@ use Rattle.rules.specs.Ringing.{ringsOf}
 use Rattle.tables.specs.Regions.{stateIn}
 use Rattle.tables.proofs.SliceRoom.{room-of}
 use Rattle.lists.specs.Buffer.{Put}
-use Rattle.rules.specs.Lines.{headLine}
+use Rattle.file_rules.specs.Lines.{headLine}
 use Rattle.rules.specs.Listing.{linesOf}
-use Rattle.listing_steps.specs.Rooms.{linesRoom}
-use Rattle.listing_steps.proofs.RingTexts.{put-row, head-room}
+use Rattle.ring_lines.specs.Rooms.{linesRoom}
+use Rattle.ring_lines.proofs.RingTexts.{put-row, head-room}
 use borrow.Author.Needs.{needs}
 use Rattle.listing_steps.proofs.put_cut.Statement.{statement}
 use Rattle.listing_steps.proofs.put_cut.Tie as tie

@@ -5,7 +5,7 @@ use mathlib.Core.Path.{_≡_, ap}
 use Prim.Native.Nat.{_+_, _/_, _^_, _<_, _≤_}
 use native.Mathlib.Omega.{arith}
 use lib.ListN.{length}
-use Rattle.rules.specs.Decimal.{decimal}
+use Rattle.file_rules.specs.Decimal.{decimal}
 use Rattle.listing_text.proofs.Decimals.{decimal-one, decimal-longer, decimal-64}
 use Rattle.listing_text.proofs.digit_count.Statement.{statement}
 use Rattle.listing_text.proofs.digit_count.Tie as tie

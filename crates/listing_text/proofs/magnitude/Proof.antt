@@ -4,7 +4,7 @@ use mathlib.Core.Bool.{true, false}
 use lib.IntN.{ℤ, pos}
 use lib.Signed.{ltZ}
 use native.Mathlib.Omega.{arith}
-use Rattle.rules.proofs.Signs.{Below, below, above, back}
+use Rattle.file_rules.proofs.Signs.{Below, below, above, back}
 use borrow.Author.Needs.{needs}
 use Rattle.listing_text.proofs.magnitude.Statement.{statement}
 use Rattle.listing_text.proofs.magnitude.Tie as tie

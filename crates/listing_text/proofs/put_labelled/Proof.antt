@@ -1,6 +1,6 @@
 -- `put_labelled` meets its contract: the text, and then the number.
-use Rattle.rules.specs.Decimal.{decimal}
-use Rattle.rules.specs.Lines.{labelled}
+use Rattle.file_rules.specs.Decimal.{decimal}
+use Rattle.file_rules.specs.Lines.{labelled}
 use Rattle.lists.proofs.Buffers.{Left, left-all, left-room, left-fits, left-put, left-last}
 use borrow.Author.Needs.{needs}
 use Rattle.listing_text.proofs.put_labelled.Statement.{statement}

@@ -6,7 +6,7 @@ use Prim.Native.Nat.{ℕ, _+_, _-_, _≤_}
 use native.Mathlib.Omega.{arith}
 use borrow.Author.Needs.{needs}
 use lib.ListN.{take, drop}
-use Rattle.rules.specs.Lines.{labelled, spaced, startingNodes}
+use Rattle.file_rules.specs.Lines.{labelled, spaced, startingNodes}
 use Rattle.lists.proofs.Buffers.{Left, left-all, left-fits, left-put, left-none}
 use Rattle.listing_text.proofs.put_nodes.Statement.{statement}
 use Rattle.listing_text.proofs.put_nodes.Tie as tie

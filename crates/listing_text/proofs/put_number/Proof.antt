@@ -6,7 +6,7 @@ use Prim.Native.Nat.{_+_, _-_, _/_, _%_, _<_, _≤_}
 use native.Mathlib.Omega.{arith}
 use borrow.Author.Needs.{needs}
 use lib.ListN.{length, set, length-set}
-use Rattle.rules.specs.Decimal.{digit, decimal}
+use Rattle.file_rules.specs.Decimal.{digit, decimal}
 use Rattle.lists.specs.Buffer.{written}
 use Rattle.listing_text.proofs.Decimals.{decimal-one, decimal-more, decimal-longer}
 use Rattle.lists.proofs.Buffers.{written-byte, written-last}

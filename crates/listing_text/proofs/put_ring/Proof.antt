@@ -7,9 +7,9 @@ use lib.IntN.{ℤ}
 use lib.ListN.{length, getD, take, drop}
 use mir.Syntax.{w64}
 use mir.Val.{toZ, ofZ}
-use Rattle.rules.specs.Decimal.{ascii, signedDecimal}
-use Rattle.rules.specs.Lines.{labelled, spaced, startingNodes, ringLine}
-use Rattle.rules.proofs.Signs.{back}
+use Rattle.file_rules.specs.Decimal.{ascii, signedDecimal}
+use Rattle.file_rules.specs.Lines.{labelled, spaced, startingNodes, ringLine}
+use Rattle.file_rules.proofs.Signs.{back}
 use Rattle.listing_text.proofs.Lengths.{ring-short}
 use Rattle.listing_text.proofs.Nodes.{ring-length}
 use Rattle.lists.proofs.Buffers.{Left, left-all, left-room, left-fits, left-put, left-last}

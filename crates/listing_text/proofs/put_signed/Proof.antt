@@ -6,9 +6,9 @@ use Prim.Native.Nat.{ℕ, _+_, _≤_}
 use lib.IntN.{ℤ, pos, natAbs}
 use lib.Signed.{ltZ}
 use lib.ListN.{length}
-use Rattle.rules.specs.Decimal.{decimal, signedDecimal}
+use Rattle.file_rules.specs.Decimal.{decimal, signedDecimal}
 use Rattle.lists.specs.Buffer.{Put}
-use Rattle.rules.proofs.Signs.{back, signed-below, signed-above}
+use Rattle.file_rules.proofs.Signs.{back, signed-below, signed-above}
 use borrow.Author.Needs.{needs}
 use Rattle.listing_text.proofs.put_signed.Statement.{statement}
 use Rattle.listing_text.proofs.put_signed.Tie as tie

@@ -9,7 +9,7 @@ use Rattle.rules.specs.State.{State}
 use Rattle.tables.specs.Regions.{degreesIn, stateIn, leastStars}
 use Rattle.adding.specs.Written.{entered, endsEntered, raised}
 use Rattle.adding.proofs.Making.{start-below, end-below, low-start, low-raised}
-use Rattle.writing.specs.Written.{nodeCounted, Raisable}
+use Rattle.table_entries.specs.Written.{nodeCounted, Raisable}
 use Rattle.making.proofs.Counting.{node-edges, node-degrees, grown-is}
 use Rattle.making.proofs.make.Statement.{statement}
 use Rattle.making.proofs.make.Tie as tie

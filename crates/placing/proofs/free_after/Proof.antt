@@ -1,8 +1,8 @@
 -- `free_after` meets its contract: case by case of the answer.
-use Prim.Native.Nat.{ℕ, _+_, _≤_}
+use Prim.Native.Nat.{_+_}
 use native.Mathlib.Omega.{arith}
 use mathlib.Core.Path.{_≡_, sym, ap, ap₂, _∙_}
-use mathlib.Core.Bool.{Bool, true, false, cond, _||_, not}
+use mathlib.Core.Bool.{true, cond}
 use Rattle.rules.specs.Limits.{limits}
 use Rattle.adding.specs.Outcomes.{replyOf}
 use Rattle.line_ids.specs.Free.{freeFrom}

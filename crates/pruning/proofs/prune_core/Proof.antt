@@ -6,7 +6,7 @@ use lib.ListN.{length}
 use Rattle.lists.specs.Lists.{over}
 use Rattle.rules.specs.Limits.{limits}
 use Rattle.rules.proofs.PruneEnds.{remaining}
-use Rattle.pruning.specs.Steps.{tablesAt}
+use Rattle.leaves.specs.Steps.{tablesAt}
 use Rattle.pruning.proofs.Runs.{Running, run-start, run-turning, run-less, run-turned, run-end, run-listed, found-size, found-few}
 use Rattle.pruning.proofs.prune_core.Statement.{statement}
 use Rattle.pruning.proofs.prune_core.Tie as tie

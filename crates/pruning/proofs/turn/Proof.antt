@@ -6,9 +6,9 @@ use lib.ListN.{getD}
 use Rattle.rules.specs.Prune.{firstActive}
 use Rattle.stars.specs.Groups.{groupOf}
 use Rattle.stars.proofs.Groups.{group-part}
-use Rattle.pruning.specs.Given.{originIn}
-use Rattle.pruning.specs.Steps.{topOf}
-use Rattle.pruning.proofs.Turns.{part-low, takeable, leaves, takes}
+use Rattle.leaves.specs.Given.{originIn}
+use Rattle.leaves.specs.Steps.{topOf}
+use Rattle.leaves.proofs.Turns.{part-low, takeable, leaves, takes}
 use borrow.Author.Needs.{needs}
 use Rattle.pruning.proofs.turn.Statement.{statement}
 use Rattle.pruning.proofs.turn.Tie as tie

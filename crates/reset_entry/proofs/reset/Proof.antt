@@ -5,7 +5,7 @@ use Rattle.rules.specs.Limits.{limits}
 use Rattle.rules.specs.State.{State}
 use Rattle.tables.specs.Tables.{stateOf}
 use Rattle.tables.specs.Regions.{stateIn, xsIn, ysIn, zsIn, segmentsIn, sourcesIn, targetsIn, lineIdsIn, tracingsIn}
-use Rattle.tables.proofs.Shells.{reset-given, reset-is}
+use Rattle.table_tests.proofs.Shells.{reset-given, reset-is}
 use Rattle.tables.proofs.SliceRoom.{room-of}
 use Rattle.calls.specs.Replies.{left}
 use Rattle.calls.proofs.Shells.{Good, check-passed}

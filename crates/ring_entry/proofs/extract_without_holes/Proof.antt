@@ -9,7 +9,7 @@ use Rattle.tables.proofs.SliceRoom.{room-of}
 use Rattle.extracting.specs.Extraction.{listsOf}
 use Rattle.extracting.proofs.Outcome.{long-room, extraction-is-outcome}
 use Rattle.calls.specs.declared.checks.Checked.the-variants.{Passed}
-use Rattle.ring_entry.specs.Checks.{RingChecked}
+use Rattle.ring_checks.specs.Checks.{RingChecked}
 use borrow.Author.Needs.{needs}
 use Rattle.ring_entry.proofs.extract_without_holes.Statement.{statement}
 use Rattle.ring_entry.proofs.extract_without_holes.Tie as tie

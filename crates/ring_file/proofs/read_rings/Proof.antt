@@ -1,8 +1,8 @@
 -- `read_rings` meets its contract: a record's refusal, then 14, then the rings.
 use native.Mathlib.Omega.{arith}
 use mathlib.Core.Path.{sym, ap, _∙_}
-use Rattle.rules.specs.Records.{readFile}
-use Rattle.rules.specs.RingFile.{FileRings, lent, ringNext}
+use Rattle.file_rules.specs.Records.{readFile}
+use Rattle.file_rules.specs.RingFile.{FileRings, lent, ringNext}
 use Rattle.ring_reading.specs.Found.{numberOf, surveyOf}
 use Rattle.ring_file.proofs.Reading.{Counted, counted-is, read-refused, read-few, read-short, read-done}
 use borrow.Author.Needs.{needs}

@@ -2,7 +2,7 @@
 use native.Mathlib.Omega.{arith}
 use mathlib.Core.Path.{sym, _∙_}
 use borrow.Author.Tests.{not-true, not-false, leb-true}
-use Rattle.rules.specs.RingFile.{FileRings, lent}
+use Rattle.file_rules.specs.RingFile.{FileRings, lent}
 use Rattle.ring_file.proofs.Writing.{write-unable, write-short, write-done}
 use borrow.Author.Needs.{needs}
 use Rattle.ring_file.proofs.write_rings.Statement.{statement}

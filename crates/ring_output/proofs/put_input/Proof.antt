@@ -6,11 +6,11 @@ use lib.Ieee.{ofBits}
 use Rattle.rules.specs.Limits.{limits}
 use Rattle.tables.specs.Regions.{stateIn}
 use Rattle.adding.specs.Outcomes.{Ready}
-use Rattle.intake.specs.Taking.{Taking, takeFile}
-use Rattle.intake.specs.Answers.{replyOf}
-use Rattle.byte_listing.specs.File.{emptyGraph}
+use Rattle.taking.specs.Taking.{Taking, takeFile}
+use Rattle.taking.specs.Answers.{replyOf}
+use Rattle.taken_text.specs.File.{emptyGraph}
 use Rattle.byte_listing.proofs.Empty.{blank, blank-empty, empty-ready}
-use Rattle.intake.proofs.Left.{file-ready}
+use Rattle.taking.proofs.Left.{file-ready}
 use Rattle.ring_output.specs.Output.{TellsTaken}
 use Rattle.ring_output.proofs.Outputs.{ready-stands, tells-writes, tells-ends}
 use borrow.Author.Needs.{needs}

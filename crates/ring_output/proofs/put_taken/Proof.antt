@@ -3,7 +3,7 @@ use mathlib.Core.Path.{sym, subst}
 use Rattle.rules.specs.Limits.{limits}
 use Rattle.rules.specs.State.{State}
 use Rattle.tables.specs.Regions.{stateIn}
-use Rattle.intake.specs.Answers.{replyOf}
+use Rattle.taking.specs.Answers.{replyOf}
 use Rattle.ring_output.specs.Output.{Tells}
 use Rattle.ring_output.specs.declared.Output.the-variants.{File, Refusal}
 use borrow.Author.Needs.{needs}

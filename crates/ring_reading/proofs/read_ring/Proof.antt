@@ -2,7 +2,7 @@
 use native.Mathlib.Omega.{arith}
 use mathlib.Core.Path.{_≡_, sym, ap, _∙_, subst}
 use lib.ListN.{drop}
-use Rattle.rules.specs.Records.{taken, wrong, end, frame}
+use Rattle.file_rules.specs.Records.{taken, wrong, end, frame}
 use Rattle.frames.specs.Frames.{frameOf, numberOf, Skips}
 use Rattle.ring_reading.proofs.Records.{by-frame, other-passed}
 use borrow.Author.Needs.{needs}

@@ -3,8 +3,8 @@ use Prim.Native.Nat.{_+_, _-_, _*_}
 use native.Mathlib.Omega.{arith}
 use mathlib.Core.Path.{_≡_, sym, ap, _∙_}
 use lib.ListN.{length, drop, length-drop}
-use Rattle.rules.specs.Records.{taken, passed}
-use Rattle.rules.specs.RingFile.{ringNext}
+use Rattle.file_rules.specs.Records.{taken, passed}
+use Rattle.file_rules.specs.RingFile.{ringNext}
 use Rattle.ring_reading.specs.Found.{numberOf, ringOf, foundOf}
 use Rattle.ring_reading.proofs.Progress.{Surveying, survey-start, found-there, survey-ring, survey-passed, survey-end, survey-wrong}
 use borrow.Author.Needs.{needs}

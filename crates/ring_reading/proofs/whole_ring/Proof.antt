@@ -5,7 +5,7 @@ use mathlib.Core.Path.{_≡_, sym, ap, _∙_}
 use mathlib.Core.List.{List}
 use lib.ListN.{length, take, drop, length-drop}
 use lib.Seq.{drop-drop}
-use Rattle.rules.specs.Records.{littleEndian, field}
+use Rattle.file_rules.specs.Records.{littleEndian, field}
 use Rattle.ring_reading.proofs.Records.{RingFrame, ring-frame, ring-none, ring-other, ring-taken}
 use borrow.Author.Needs.{needs}
 use Rattle.ring_reading.proofs.whole_ring.Statement.{statement}

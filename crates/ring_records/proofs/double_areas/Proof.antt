@@ -8,7 +8,7 @@ use lib.ListN.{length, getD, take, set, length-set}
 use mir.Syntax.{w64}
 use mir.Val.{toZ, ofZ}
 use Rattle.lists.specs.Lists.{over}
-use Rattle.rules.proofs.Signs.{back}
+use Rattle.file_rules.proofs.Signs.{back}
 use Rattle.tables.proofs.Writing.{over-more, over-all}
 use Rattle.ring_records.specs.Given.{Halves}
 use Rattle.ring_records.proofs.double_areas.Statement.{statement}

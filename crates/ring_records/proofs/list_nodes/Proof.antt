@@ -4,7 +4,7 @@ use native.Mathlib.Omega.{arith}
 use mathlib.Core.Path.{_≡_, refl, _∙_}
 use lib.ListN.{length, getD, take, set, length-set, length-map}
 use Rattle.lists.specs.Lists.{over}
-use Rattle.rules.specs.Lines.{startingNodes}
+use Rattle.file_rules.specs.Lines.{startingNodes}
 use Rattle.tables.proofs.Writing.{over-more, over-all}
 use Rattle.ring_records.proofs.Records.{whole, start-at}
 use Rattle.ring_records.proofs.list_nodes.Statement.{statement}

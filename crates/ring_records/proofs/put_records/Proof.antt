@@ -8,7 +8,7 @@ use lib.ListN.{length, getD, length-map}
 use Rattle.lists.specs.Lists.{upto, all}
 use Rattle.lists.specs.Buffer.{Put}
 use Rattle.rules.specs.Face.{Ring}
-use Rattle.rules.specs.RingFile.{lent}
+use Rattle.file_rules.specs.RingFile.{lent}
 use Rattle.ring_writing.specs.Rings.{bytesAt, writableAt, sizesAt}
 use Rattle.ring_records.specs.Given.{Listed}
 use Rattle.ring_records.proofs.Records.{doubledOf, areas-halves, all-able, sizes-fit, file-is}

@@ -3,9 +3,8 @@ use Prim.Native.Nat.{ℕ, _<_}
 use native.Mathlib.Omega.{arith}
 use borrow.Author.Needs.{needs}
 use mathlib.Core.Path.{_≡_, refl, sym, ap, _∙_}
-use mathlib.Core.Logic.{inl}
 use lib.Ieee.{nan}
-use lib.ListN.{length, getD}
+use lib.ListN.{getD}
 use Rattle.ring_sides.specs.Sides.{sideFrom, sideAt}
 use Rattle.ring_sides.proofs.Reading.{no-side, past-sides, past-areas, within-lists}
 use Rattle.ring_sides.proofs.side_at.Statement.{statement}

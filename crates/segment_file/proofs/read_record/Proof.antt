@@ -6,7 +6,7 @@ use Prim.Native.Nat.{ℕ}
 use lib.ListN.{drop}
 use Rattle.frames.specs.Frames.{frameOf, Skips}
 use Rattle.frames.specs.declared.Frame.{Frame}
-use Rattle.rules.specs.Records.{frame}
+use Rattle.file_rules.specs.Records.{frame}
 use Rattle.segment_file.proofs.Found.{by-frame, other-there, room, segment-there}
 use borrow.Author.Needs.{needs}
 use Rattle.segment_file.proofs.read_record.Statement.{statement}

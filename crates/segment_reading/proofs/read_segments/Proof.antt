@@ -17,11 +17,11 @@ use Rattle.adding.specs.Outcomes.{Ready}
 use Rattle.buffered_input.specs.Reads.{isOpen}
 use Rattle.buffered_input.specs.declared.Source.{Source}
 use Rattle.buffered_input.specs.declared.Source.the-variants.{Open, Ended, Failed}
-use Rattle.intake.specs.Taking.{Taking, takeFile, waits}
-use Rattle.intake.specs.Answers.{replyOf}
-use Rattle.intake.proofs.Left.{file-ready, file-reached}
-use Rattle.segment_reading.specs.Reading.{bufferBytes, mostBytes, capped, Kept}
-use Rattle.segment_reading.proofs.Waiting.{Short, left-short}
+use Rattle.taking.specs.Taking.{Taking, takeFile, waits}
+use Rattle.taking.specs.Answers.{replyOf}
+use Rattle.taking.proofs.Left.{file-ready, file-reached}
+use Rattle.long_records.specs.Turns.{bufferBytes, mostBytes, capped, Kept}
+use Rattle.long_records.proofs.Waiting.{Short, left-short}
 use Rattle.segment_reading.proofs.InParts.{Gone, none-gone, then-file, then-size, then-gone}
 use Rattle.segment_reading.proofs.read_segments.Statement.{statement}
 use Rattle.segment_reading.proofs.read_segments.Tie as tie

@@ -7,9 +7,9 @@ use lib.ListN.{length}
 use lib.Seq.{length-take-le}
 use mir.Syntax.{w64}
 use mir.Val.{toZ, ofZ}
-use Rattle.rules.specs.Decimal.{signedDecimal}
+use Rattle.file_rules.specs.Decimal.{signedDecimal}
 use Rattle.listing_text.proofs.Decimals.{signed-64}
-use Rattle.rules.proofs.Signs.{back}
+use Rattle.file_rules.proofs.Signs.{back}
 use borrow.Author.Needs.{needs}
 use Rattle.call_replies.proofs.printing.say_signed.Statement.{statement}
 use Rattle.call_replies.proofs.printing.say_signed.Tie as tie

@@ -7,9 +7,9 @@ use lib.Ieee.{Float}
 use lib.ListN.{length, take, drop}
 use lib.Seq.{length-take-le}
 use Rattle.rules.specs.Limits.{limits}
-use Rattle.rings.specs.Keys.{keysY}
+use Rattle.ring_tally.specs.Keys.{keysY}
 use Rattle.faces.specs.Numbers.{Numberable, Nameable}
-use Rattle.extracting.specs.Listing.{keysXOf, keysYOf}
+use Rattle.ring_listing.specs.Listing.{keysXOf, keysYOf}
 use Rattle.extracting.proofs.naming.name_rings.Statement.{statement}
 use Rattle.extracting.proofs.naming.name_rings.Tie as tie
 

@@ -6,10 +6,10 @@ use mathlib.Core.Path.{_∙_, ap}
 use mathlib.Core.List.{map}
 use lib.ListN.{length, length-replicate}
 use Rattle.lists.specs.Lists.{over}
-use Rattle.rings.specs.Keys.{keysY}
-use Rattle.rings.specs.Sides.{numberIn}
+use Rattle.ring_tally.specs.Keys.{keysY}
+use Rattle.ring_tally.specs.Sides.{numberIn}
 use Rattle.rings.proofs.Rows.{table-rings}
-use Rattle.extracting.proofs.Walks.{walk-asks}
+use Rattle.ring_listing.proofs.Walks.{walk-asks}
 use Rattle.extracting.proofs.sides.list_sides.Statement.{statement}
 use Rattle.extracting.proofs.sides.list_sides.Tie as tie
 

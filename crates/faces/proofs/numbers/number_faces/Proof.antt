@@ -11,7 +11,7 @@ use lib.Ieee.{Float}
 use borrow.Author.Needs.{needs}
 use Rattle.lists.specs.Lists.{upto, over}
 use Rattle.rules.specs.Limits.{limits}
-use Rattle.faces.specs.Listed.{Listed, listed, AllStand}
+use Rattle.ring_keys.specs.Listed.{Listed, listed, AllStand}
 use Rattle.faces.specs.Order.{inOrder}
 use Rattle.faces.specs.Numbers.{indexOf, Once, ringsAt, faceNumbers, comparisonsAt, Numberable}
 use Rattle.faces.proofs.Rings.{length-order, order-once}

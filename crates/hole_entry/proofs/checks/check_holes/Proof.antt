@@ -10,7 +10,7 @@ use Rattle.tables.specs.Regions.{stateIn}
 use Rattle.tables.proofs.SliceRoom.{room-of}
 use Rattle.extracting.specs.Extraction.{listsOf}
 use Rattle.calls.specs.declared.checks.Checked.the-variants.{Passed}
-use Rattle.ring_entry.specs.Checks.{RingChecked}
+use Rattle.ring_checks.specs.Checks.{RingChecked}
 use Rattle.hole_entry.specs.Clause.{lent}
 use Rattle.hole_entry.proofs.Tests.{extract-stops, extract-short}
 use borrow.Author.Needs.{needs}

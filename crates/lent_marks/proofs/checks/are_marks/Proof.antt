@@ -3,7 +3,7 @@ use Prim.Native.Nat.{_≤_, _-_}
 use native.Mathlib.Omega.{arith}
 use mathlib.Core.Path.{_≡_, refl}
 use Rattle.lists.specs.Lists.{upto, all}
-use Rattle.tables.proofs.Testing.{all-next, all-found}
+use Rattle.table_tests.proofs.Testing.{all-next, all-found}
 use Rattle.lent_marks.specs.Marks.{markAt}
 use Rattle.lent_marks.proofs.checks.are_marks.Statement.{statement}
 use Rattle.lent_marks.proofs.checks.are_marks.Tie as tie

@@ -9,9 +9,9 @@ use Rattle.lists.specs.Lists.{In}
 use Rattle.rules.specs.Sane.{Sane}
 use Rattle.rules.specs.State.{arrangementIn}
 use Rattle.stars.specs.Grouped.{Grouped}
-use Rattle.pieces.specs.Reach.{reachNew, Spreadable}
+use Rattle.seeds.specs.Reach.{reachNew, Spreadable}
 use Rattle.lists.proofs.Counts.{bit-true, below-le}
-use Rattle.pieces.proofs.Reaching.{free, one-none, new-none, free-reach}
+use Rattle.seeds.proofs.Reaching.{free, one-none, new-none, free-reach}
 use Rattle.pieces.proofs.Turns.{takes, turn-less, turn-below, turn-fills}
 use Rattle.pieces.proofs.Filling.{Below, Filling, fill-begin, fill-whole}
 use Rattle.pieces.proofs.fill.fill_piece.Statement.{statement}

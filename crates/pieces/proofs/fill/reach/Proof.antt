@@ -5,9 +5,9 @@ use borrow.Author.Needs.{needs}
 use mathlib.Core.Path.{_≡_, sym, ap, _∙_, subst}
 use mathlib.Core.List.{[], _∷_}
 use lib.ListN.{length, getD, set}
-use Rattle.pieces.specs.Reach.{Reached}
-use Rattle.pieces.proofs.Reaching.{new-none}
-use Rattle.pieces.proofs.Spreading.{reached-none, reached-has}
+use Rattle.seeds.specs.Reach.{Reached}
+use Rattle.seeds.proofs.Reaching.{new-none}
+use Rattle.seeds.proofs.Spreading.{reached-none, reached-has}
 use Rattle.pieces.proofs.fill.reach.Statement.{statement}
 use Rattle.pieces.proofs.fill.reach.Tie as tie
 

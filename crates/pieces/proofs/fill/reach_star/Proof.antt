@@ -9,9 +9,9 @@ use lib.ListN.{length, getD, take}
 use Rattle.rules.specs.HalfEdge.{twin}
 use Rattle.lists.specs.Lists.{In}
 use Rattle.stars.specs.Groups.{unmarked, part}
-use Rattle.pieces.specs.Reach.{reachAll, reachNew, endsOf, Reached}
+use Rattle.seeds.specs.Reach.{reachAll, reachNew, endsOf, Reached}
 use Rattle.stars.proofs.Groups.{part-end, part-in}
-use Rattle.pieces.proofs.Spreading.{Left, left-room, left-one, left-end, ends-yes, ends-no}
+use Rattle.seeds.proofs.Spreading.{Left, left-room, left-one, left-end, ends-yes, ends-no}
 use Rattle.pieces.proofs.fill.reach_star.Statement.{statement}
 use Rattle.pieces.proofs.fill.reach_star.Tie as tie
 

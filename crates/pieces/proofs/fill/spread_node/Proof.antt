@@ -6,9 +6,9 @@ use mathlib.Core.Path.{_≡_, sym, ap, _∙_, subst}
 use lib.ListN.{length, getD}
 use Rattle.lists.specs.Lists.{In}
 use Rattle.stars.specs.Groups.{part, groupOf}
-use Rattle.pieces.specs.Reach.{reachNew, endsOf, Reached}
+use Rattle.seeds.specs.Reach.{reachNew, endsOf, Reached}
 use Rattle.stars.proofs.Groups.{within-more, group-part, group-within}
-use Rattle.pieces.proofs.Stars.{star-ends}
+use Rattle.seeds.proofs.Stars.{star-ends}
 use Rattle.pieces.proofs.fill.spread_node.Statement.{statement}
 use Rattle.pieces.proofs.fill.spread_node.Tie as tie
 

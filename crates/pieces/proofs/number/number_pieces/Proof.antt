@@ -1,7 +1,7 @@
 -- `pieces::number::number_pieces` meets its contract. What the two callees ensure, put together by the laws of `Numbering`.
 use native.Mathlib.Omega.{arith}
 use borrow.Author.Needs.{needs}
-use Rattle.pieces.proofs.SeedOrder.{seeds-length, seeds-low}
+use Rattle.seeds.proofs.SeedOrder.{seeds-length, seeds-low}
 use Rattle.pieces.proofs.Numbering.{numbered}
 use Rattle.pieces.proofs.number.number_pieces.Statement.{statement}
 use Rattle.pieces.proofs.number.number_pieces.Tie as tie

@@ -11,7 +11,7 @@ use borrow.Rule.Slice.PartMut.{putMid, same-len-mid}
 use Rattle.rules.specs.Limits.{limits}
 use Rattle.rules.specs.Prune.{Pruning}
 use Rattle.tables.proofs.Regions.{tail-is, front-inside, front-behind, tail-inside, tail-before}
-use Rattle.pruning.specs.Steps.{Left}
+use Rattle.pruning.specs.Left.{Left}
 use Rattle.prune_entry.proofs.Lent.{lent-prunable, lent-pruned}
 use borrow.Author.Needs.{needs}
 use Rattle.prune_entry.proofs.regions.prune_regions.Statement.{statement}

@@ -8,10 +8,10 @@ use lib.ListN.{length, take, replicate}
 use borrow.Rule.Slice.PartMut.{putMid, same-len-mid}
 use Rattle.lists.specs.Lists.{upto, over}
 use Rattle.rules.specs.Limits.{limits}
-use Rattle.tables.specs.Tests.{startsAt}
+use Rattle.table_tests.specs.Tests.{startsAt}
 use Rattle.tables.specs.Regions.{sourcesIn, degreesIn, nodeMarksIn}
 use Rattle.tables.proofs.Writing.{take-map-upto}
-use Rattle.tables.proofs.SoundTests.{starts-of}
+use Rattle.table_tests.proofs.SoundTests.{starts-of}
 use Rattle.tables.proofs.Regions.{tail-is, front-inside, front-behind, tail-inside, tail-before}
 use borrow.Author.Needs.{needs}
 use Rattle.reset_entry.proofs.regions.reset_regions.Statement.{statement}

@@ -6,9 +6,9 @@ use lib.ListN.{take, drop}
 use lib.Seq.{drop-drop}
 use mir.Syntax.{w64}
 use mir.Val.{toZ, ofZ}
-use Rattle.rules.specs.Records.{littleEndian, field}
-use Rattle.rules.proofs.Signs.{back}
-use Rattle.rules.specs.RingFile.{lent}
+use Rattle.file_rules.specs.Records.{littleEndian, field}
+use Rattle.file_rules.proofs.Signs.{back}
+use Rattle.file_rules.specs.RingFile.{lent}
 use Rattle.ring_reading.specs.Taken.{ringSet}
 use borrow.Author.Needs.{needs}
 use Rattle.ring_reading.proofs.taking.enter_ring.Statement.{statement}

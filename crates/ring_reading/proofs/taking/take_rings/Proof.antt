@@ -3,8 +3,8 @@ use Prim.Native.Nat.{ℕ, _+_, _-_, _*_, _≤_}
 use native.Mathlib.Omega.{arith}
 use mathlib.Core.Path.{_≡_, sym, ap, _∙_, subst}
 use lib.ListN.{length, drop, length-drop}
-use Rattle.rules.specs.Records.{taken, passed}
-use Rattle.rules.specs.RingFile.{FileRings, ringRoom, ringNext, lent}
+use Rattle.file_rules.specs.Records.{taken, passed}
+use Rattle.file_rules.specs.RingFile.{FileRings, ringRoom, ringNext, lent}
 use Rattle.ring_reading.specs.Found.{numberOf, ringOf, foundOf}
 use Rattle.ring_reading.specs.Taken.{wordsFrom, entryOf}
 use Rattle.ring_reading.proofs.Progress.{Surveying, progress-end, progress-stop, found-there, survey-ring, survey-passed}

@@ -4,7 +4,7 @@ use mathlib.Core.Bool.{true, false}
 use lib.IntN.{ℤ, pos}
 use lib.Signed.{ltZ}
 use native.Mathlib.Omega.{arith}
-use Rattle.rules.proofs.Signs.{Below, below, above, back}
+use Rattle.file_rules.proofs.Signs.{Below, below, above, back}
 use Rattle.ring_writing.proofs.Bytes.{turned-bits, plain-bits}
 use Rattle.ring_writing.proofs.numbers.bits_of.Statement.{statement}
 use Rattle.ring_writing.proofs.numbers.bits_of.Tie as tie

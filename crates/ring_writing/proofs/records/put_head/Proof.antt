@@ -6,8 +6,8 @@ use mathlib.Core.List.{_++_}
 use mir.Syntax.{w64}
 use mir.Val.{ofZ}
 use Rattle.lists.specs.Buffer.{Put}
-use Rattle.rules.specs.Records.{littleBytes}
-use Rattle.rules.proofs.Signs.{back}
+use Rattle.file_rules.specs.Records.{littleBytes}
+use Rattle.file_rules.proofs.Signs.{back}
 use Rattle.ring_writing.proofs.Bytes.{put-row}
 use borrow.Author.Needs.{needs}
 use Rattle.ring_writing.proofs.records.put_head.Statement.{statement}

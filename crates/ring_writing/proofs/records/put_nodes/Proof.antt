@@ -5,7 +5,7 @@ use mathlib.Core.Path.{_≡_, ap, _∙_, subst}
 use mathlib.Core.List.{List, _++_}
 use lib.ListN.{getD, drop}
 use Rattle.lists.proofs.Buffers.{Left, left-all, left-fits, left-put, left-none}
-use Rattle.rules.specs.Records.{littleBytes}
+use Rattle.file_rules.specs.Records.{littleBytes}
 use Rattle.ring_writing.specs.Rings.{nodesIn}
 use Rattle.ring_writing.proofs.Bytes.{words, words-length, words-from, words-end}
 use Rattle.ring_writing.proofs.records.put_nodes.Statement.{statement}

@@ -7,7 +7,7 @@ use lib.ListN.{length}
 use mir.Syntax.{w64}
 use mir.Val.{ofZ, toZ}
 use Rattle.lists.specs.Buffer.{Put}
-use Rattle.rules.proofs.Signs.{back}
+use Rattle.file_rules.proofs.Signs.{back}
 use Rattle.ring_writing.specs.Rings.{nodesIn, headBytes}
 use Rattle.ring_writing.proofs.Bytes.{put-row, words, nodes-length, words-length}
 use borrow.Author.Needs.{needs}

@@ -12,8 +12,8 @@ use Rattle.lists.specs.Buffer.{Put}
 use Rattle.lists.specs.Lists.{upto}
 use Rattle.lists.proofs.Members.{all-below}
 use Rattle.lists.proofs.Buffers.{Left, left-all, left-fits, left-put, left-none}
-use Rattle.rules.specs.RingFile.{FileRings, ringAt, cutOut, ringBytes, lent}
-use Rattle.rules.proofs.Signs.{back}
+use Rattle.file_rules.specs.RingFile.{FileRings, ringAt, cutOut, ringBytes, lent}
+use Rattle.file_rules.proofs.Signs.{back}
 use Rattle.ring_writing.specs.Rings.{ringOf, bytesAt, writableAt}
 use Rattle.ring_writing.proofs.Places.{places-from, places-end, writable-is, record-size, bytes-size}
 use Rattle.ring_writing.proofs.records.put_rings.Statement.{statement}

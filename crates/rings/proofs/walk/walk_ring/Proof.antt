@@ -16,8 +16,8 @@ use Rattle.rules.specs.Sane.{Live, Permutes}
 use Rattle.rules.proofs.CycleLaws.{cycle-self, cycle-live}
 use Rattle.rules.proofs.Framing.{permutes-wide, live-wide, cycle-frame}
 use Rattle.rules.proofs.Marking.{cycle-next, walk-less}
-use Rattle.rings.specs.Keys.{keysY, keyPut}
-use Rattle.rings.specs.Tallies.{takenAt}
+use Rattle.ring_tally.specs.Keys.{keysY, keyPut}
+use Rattle.ring_tally.specs.Tallies.{takenAt}
 use Rattle.splitting.specs.Splits.{entryOf}
 use Rattle.rings.proofs.Walking.{Walking, walking-same, walking-first, walking-on, walking-end, walking-room, walked-frame, walked-same}
 use Rattle.rings.proofs.walk.walk_ring.Statement.{statement}

@@ -7,7 +7,7 @@ use lib.IntN.{negsuc}
 use lib.Ieee.{fin, ofBits, binary64, mul}
 use lib.ListN.{set}
 use Rattle.rules.specs.Ringing.{sideNumber, sideArea}
-use Rattle.rings.specs.Sides.{sideOf, signSide}
+use Rattle.ring_tally.specs.Sides.{sideOf, signSide}
 use Rattle.rings.proofs.walk.write_row.Statement.{statement}
 use Rattle.rings.proofs.walk.write_row.Tie as tie
 

@@ -1,6 +1,6 @@
 -- `answer_records` meets its contract.
 use mathlib.Core.Path.{refl, ap}
-use Rattle.file_entry.specs.Replies.{fileReply}
+use Rattle.file_taking.specs.Replies.{fileReply}
 use Rattle.replies.proofs.Replying.{answer-refused, answer-success}
 use borrow.Author.Needs.{needs}
 use Rattle.station_files.proofs.answer.answer_records.Statement.{statement}

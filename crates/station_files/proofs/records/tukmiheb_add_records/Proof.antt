@@ -8,8 +8,8 @@ use Rattle.rules.specs.Limits.{limits}
 use Rattle.rules.specs.Adding.{Nothing}
 use Rattle.tables.specs.Regions.{stateIn, leastMarks}
 use Rattle.calls.specs.declared.checks.Checked.the-variants.{Passed}
-use Rattle.file_entry.specs.FileAdding.{addRecords}
-use Rattle.file_entry.specs.Replies.{fileReply}
+use Rattle.file_taking.specs.FileAdding.{addRecords}
+use Rattle.file_taking.specs.Replies.{fileReply}
 use Rattle.file_entry.proofs.Refusals.{records-keeps}
 use Rattle.replies.specs.Left.{Lent, lent, none, heldIn}
 use Rattle.replies.proofs.Handing.{bytes-written, checkOf, check-read, bytes-enough, row-size, turned-away, let-in, settled}

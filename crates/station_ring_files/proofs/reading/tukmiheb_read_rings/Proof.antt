@@ -2,7 +2,7 @@
 use Prim.Native.Nat.{ℕ}
 use mathlib.Core.Path.{sym, ap, _∙_}
 use mathlib.Core.List.{List}
-use Rattle.rules.specs.RingFile.{FileRings, lent}
+use Rattle.file_rules.specs.RingFile.{FileRings, lent}
 use Rattle.ring_file.specs.Answers.{readOf}
 use Rattle.ring_file.specs.declared.RingsRead.{RingsRead}
 use Rattle.station_ring_files.specs.Calls.{Gave, gaveBy, gave, ringsRead}

@@ -10,7 +10,7 @@ use Rattle.rules.specs.State.{State}
 use Rattle.tables.specs.Tables.{stateOf}
 use Rattle.tables.specs.Regions.{xsIn, ysIn, zsIn, segmentsIn, sourcesIn, targetsIn, starTableIn, degreesIn, nodeMarksIn, halfMarksIn, lineIdsIn, tracingsIn}
 use Rattle.adding.specs.Written.{raised, twoAt}
-use Rattle.writing.specs.Written.{edgeCounted}
+use Rattle.table_entries.specs.Written.{edgeCounted}
 use borrow.Author.Needs.{needs}
 use Rattle.writing.proofs.edge.add_edge.Statement.{statement}
 use Rattle.writing.proofs.edge.add_edge.Tie as tie

@@ -1,0 +1,2 @@
+-- The order in which a search meets the candidates.
+pub mod Order

@@ -1,0 +1,4 @@
+-- Laws of that search.
+pub mod Boxes
+pub mod HoldingLaws
+pub mod Searching

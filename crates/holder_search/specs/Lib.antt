@@ -1,0 +1,2 @@
+-- The search for an open ring's holder.
+pub mod Search

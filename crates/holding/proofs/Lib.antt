@@ -1,0 +1,2 @@
+-- Laws of an open ring's test point.
+pub mod TestPoints

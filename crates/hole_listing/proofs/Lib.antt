@@ -1,0 +1,3 @@
+-- Laws of that listing.
+pub mod Openings
+pub mod ListingLaws

@@ -1,0 +1,2 @@
+-- What listing the holes asks.
+pub mod Listing

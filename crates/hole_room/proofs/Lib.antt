@@ -1,0 +1,2 @@
+-- How many rings are open.
+pub mod Opening

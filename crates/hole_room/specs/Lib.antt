@@ -1,0 +1,2 @@
+-- The open rings of a list of sides.
+pub mod Open

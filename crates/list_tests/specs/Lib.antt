@@ -1,0 +1,2 @@
+-- Walks along the lists of line ids.
+pub mod Walks

@@ -1,0 +1,2 @@
+-- What one turn of reading asks and leaves.
+pub mod Turns

@@ -1,0 +1,2 @@
+-- Laws on the lists that ring extraction writes.
+pub mod Extracted

@@ -1,0 +1,2 @@
+-- Laws of passing by many at once.
+pub mod Passes

@@ -1,0 +1,2 @@
+-- What lets a search pass many candidates by.
+pub mod Passing

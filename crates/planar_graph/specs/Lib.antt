@@ -1,4 +1,0 @@
--- What follows of every list of calls. Read in this order.
-pub mod Runs
-pub mod Going
-pub mod LineIds

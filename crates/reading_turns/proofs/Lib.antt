@@ -1,0 +1,2 @@
+-- The parts of the buffer that a turn reads into and takes.
+pub mod Windows

@@ -1,0 +1,2 @@
+-- the tests of ring extraction
+pub mod Shell

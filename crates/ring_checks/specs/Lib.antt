@@ -1,0 +1,3 @@
+-- What ring extraction without the hole list ensures, and what its tests say.
+pub mod Clause
+pub mod Checks

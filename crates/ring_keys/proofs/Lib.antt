@@ -1,0 +1,3 @@
+-- Laws of rows, and of keys in lists.
+pub mod Rows
+pub mod KeyLists

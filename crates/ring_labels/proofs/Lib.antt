@@ -1,0 +1,6 @@
+-- entries
+pub mod Entries
+-- links
+pub mod Linking
+-- labels
+pub mod Labelling

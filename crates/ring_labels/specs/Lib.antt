@@ -1,0 +1,3 @@
+-- What links and labels write.
+pub mod Links
+pub mod Labels

@@ -1,0 +1,2 @@
+-- Room for the lines of the rings.
+pub mod Rooms

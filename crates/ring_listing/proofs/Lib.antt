@@ -1,0 +1,2 @@
+-- Walks along the successors.
+pub mod Walks

@@ -1,0 +1,2 @@
+-- What listing the rings asks and leaves.
+pub mod Listing

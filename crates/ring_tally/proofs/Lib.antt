@@ -1,0 +1,2 @@
+-- The sides that areas tell.
+pub mod Siding

@@ -1,0 +1,8 @@
+-- what half-edges reach
+pub mod Reaching
+pub mod Stars
+pub mod Spreading
+-- the order of seeds
+pub mod Signs
+pub mod SeedOrder
+pub mod Lowest

@@ -1,0 +1,2 @@
+-- Number 7 of the tables and of the lists of line ids.
+pub mod BothLists

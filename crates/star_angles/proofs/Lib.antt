@@ -1,0 +1,3 @@
+-- Laws of where half-edges end, and of their order.
+pub mod Points
+pub mod Angular

@@ -1,0 +1,2 @@
+-- A star that is turned.
+pub mod Turning

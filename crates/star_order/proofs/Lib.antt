@@ -1,0 +1,2 @@
+-- The insertion sort.
+pub mod Insertion

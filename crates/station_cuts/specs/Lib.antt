@@ -1,0 +1,2 @@
+-- What pruning and cutting leave.
+pub mod Calls

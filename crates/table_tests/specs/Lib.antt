@@ -1,0 +1,3 @@
+-- What the tests of the tables say in terms of the rules, and what they are given.
+pub mod Tests
+pub mod Given

@@ -1,0 +1,2 @@
+-- How far a text in a buffer reaches.
+pub mod Texts

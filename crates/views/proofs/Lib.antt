@@ -1,0 +1,2 @@
+-- What is inside stays inside in a slanted view.
+pub mod Slants

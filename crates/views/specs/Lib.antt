@@ -1,0 +1,2 @@
+-- Slanted views of a map.
+pub mod Views

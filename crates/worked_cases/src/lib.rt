@@ -1,0 +1,1 @@
+// The rules' definitions on inputs that are worked by hand (specs/).
