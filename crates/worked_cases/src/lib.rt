@@ -1,1 +1,1 @@
-// The rules' definitions on inputs that are worked by hand (specs/).
+// The definitions of the documents' rules, files and texts on inputs that are worked by hand (specs/).
