@@ -4,12 +4,8 @@ use call_image::image_of;
 use call_image::is_kept;
 use call_lending::Settings;
 use call_list::GraphCall;
-use call_replies::Reply;
 use call_replies::end_line;
-use call_replies::say_holes;
 use call_replies::say_reply;
-use call_replies::say_rings;
-use call_rings::extract;
 use tables::FLOATS;
 use tables::IDS;
 use tables::MARKS;
@@ -17,7 +13,6 @@ use tables::MAX_HALF_EDGES;
 use tables::NUMBERS;
 use tables::PlanarGraph;
 use tables::STARS;
-use tables::wide;
 
 // Any call but the extraction of rings; pruning and cutting list edges where the half-edges of rings go.
 pub fn perform(
@@ -76,89 +71,5 @@ pub fn perform(
     let reply = done.reply;
     say_reply(reply, half_edges);
     end_line(is_kept(reply, old, new, &before, &after));
-    new
-}
-
-// How many records of the hole list the reply says were written.
-fn holes_said(reply: Reply) -> usize {
-    if let Reply::Rings(_, _, _, _, holes) = reply {
-        return wide(holes);
-    }
-    0
-}
-
-// The extraction of rings, with a line for each ring and a line for each hole.
-pub fn perform_rings(
-    settings: Settings,
-    floats: &[f64; FLOATS],
-    numbers: &[u16; NUMBERS],
-    stars: &[u16; STARS],
-    marks: &[bool; MARKS],
-    ids: &[u32; IDS],
-    half_edges: &mut [u16; MAX_HALF_EDGES],
-    ring_first: &mut [u16; MAX_HALF_EDGES],
-    ring_length: &mut [u16; MAX_HALF_EDGES],
-    ring_face: &mut [u16; MAX_HALF_EDGES],
-    ring_side: &mut [u8; MAX_HALF_EDGES],
-    ring_area: &mut [f64; MAX_HALF_EDGES],
-) -> PlanarGraph {
-    let before = image_of(
-        floats,
-        numbers,
-        stars,
-        marks,
-        ids,
-        half_edges,
-        ring_first,
-        ring_length,
-        ring_face,
-        ring_side,
-        ring_area,
-    );
-    let made = extract(
-        settings,
-        floats,
-        numbers,
-        stars,
-        marks,
-        ids,
-        half_edges,
-        ring_first,
-        ring_length,
-        ring_face,
-        ring_side,
-        ring_area,
-    );
-    let after = image_of(
-        floats,
-        numbers,
-        stars,
-        marks,
-        ids,
-        half_edges,
-        ring_first,
-        ring_length,
-        ring_face,
-        ring_side,
-        ring_area,
-    );
-    let old = settings.graph;
-    let done = made.outcome;
-    let new = done.graph;
-    let reply = done.reply;
-    let list = made.list;
-    let is_said = made.count == holes_said(reply);
-    say_reply(reply, half_edges);
-    end_line(is_said && is_kept(reply, old, new, &before, &after));
-    say_rings(
-        reply,
-        half_edges,
-        ring_first,
-        ring_length,
-        ring_face,
-        ring_side,
-        ring_area,
-    );
-    say_holes(list, made.count);
     new
 }

@@ -1,83 +1,105 @@
-// One call of the extraction of rings, on slices and lists that may be lent short. A slice of records is
-// lent by no rule of the prover, so the entry's core is called: it does all but write the holes, which
-// it hands over.
+// The extraction of rings is made, everything is compared with what stood there before, and the reply is
+// printed with its rings and holes.
+mod entry;
+
+use crate::entry::extract;
+use call_image::image_of;
+use call_image::is_kept;
 use call_lending::Settings;
-use call_lending::first_floats;
-use call_lending::first_numbers;
-use call_lending::first_sides;
-use call_lending::share_floats;
-use call_lending::share_ids;
-use call_lending::share_marks;
-use call_lending::share_numbers;
-use call_lending::share_stars;
-use call_replies::Outcome;
 use call_replies::Reply;
-use hole_entry::Ringed;
-use hole_entry::RingsReply;
-use holes::Hole;
-use tables::MAX_SHAPED;
+use call_replies::end_line;
+use call_replies::say_holes;
+use call_replies::say_reply;
+use call_replies::say_rings;
+use tables::FLOATS;
+use tables::IDS;
+use tables::MARKS;
+use tables::MAX_HALF_EDGES;
+use tables::NUMBERS;
+use tables::PlanarGraph;
+use tables::STARS;
+use tables::wide;
 
-// What the call did, and the holes that the entry would write.
-pub struct Extraction {
-    pub outcome: Outcome,
-    pub list: [Hole; MAX_SHAPED],
-    pub count: usize,
-}
-
-// Its reply in the form that all calls have.
-fn outcome_of(done: Ringed) -> Outcome {
-    let graph = done.graph;
-    let answer = done.reply;
-    match answer {
-        RingsReply::Rings(count, census, comparisons, halves, holes) => Outcome {
-            graph,
-            reply: Reply::Rings(count, census, comparisons, halves, holes),
-        },
-        RingsReply::Refused(why) => Outcome {
-            graph,
-            reply: Reply::Refused(tables::refusal_number(why) as u64),
-        },
+// How many records of the hole list the reply says were written.
+fn holes_said(reply: Reply) -> usize {
+    if let Reply::Rings(_, _, _, _, holes) = reply {
+        return wide(holes);
     }
+    0
 }
 
-pub fn extract(
+// The extraction of rings, with a line for each ring and a line for each hole.
+pub fn perform_rings(
     settings: Settings,
-    floats: &[f64],
-    numbers: &[u16],
-    stars: &[u16],
-    marks: &[bool],
-    ids: &[u32],
-    half_edges: &mut [u16],
-    ring_first: &mut [u16],
-    ring_length: &mut [u16],
-    ring_face: &mut [u16],
-    ring_side: &mut [u8],
-    ring_area: &mut [f64],
-) -> Extraction {
-    let graph = settings.graph;
-    let short = settings.short;
-    let length = settings.length;
-    let made = hole_entry::extract_core(
-        settings.holes,
-        graph,
-        share_floats(floats, short),
-        share_numbers(numbers, short),
-        share_stars(stars, short),
-        share_marks(marks, short),
-        share_ids(ids, short),
-        first_numbers(half_edges, length),
-        first_numbers(ring_first, length),
-        first_numbers(ring_length, length),
-        first_numbers(ring_face, length),
-        first_sides(ring_side, length),
-        first_floats(ring_area, length),
+    floats: &[f64; FLOATS],
+    numbers: &[u16; NUMBERS],
+    stars: &[u16; STARS],
+    marks: &[bool; MARKS],
+    ids: &[u32; IDS],
+    half_edges: &mut [u16; MAX_HALF_EDGES],
+    ring_first: &mut [u16; MAX_HALF_EDGES],
+    ring_length: &mut [u16; MAX_HALF_EDGES],
+    ring_face: &mut [u16; MAX_HALF_EDGES],
+    ring_side: &mut [u8; MAX_HALF_EDGES],
+    ring_area: &mut [f64; MAX_HALF_EDGES],
+) -> PlanarGraph {
+    let before = image_of(
+        floats,
+        numbers,
+        stars,
+        marks,
+        ids,
+        half_edges,
+        ring_first,
+        ring_length,
+        ring_face,
+        ring_side,
+        ring_area,
     );
-    let done = made.ringed;
+    let made = extract(
+        settings,
+        floats,
+        numbers,
+        stars,
+        marks,
+        ids,
+        half_edges,
+        ring_first,
+        ring_length,
+        ring_face,
+        ring_side,
+        ring_area,
+    );
+    let after = image_of(
+        floats,
+        numbers,
+        stars,
+        marks,
+        ids,
+        half_edges,
+        ring_first,
+        ring_length,
+        ring_face,
+        ring_side,
+        ring_area,
+    );
+    let old = settings.graph;
+    let done = made.outcome;
+    let new = done.graph;
+    let reply = done.reply;
     let list = made.list;
-    let outcome = outcome_of(done);
-    Extraction {
-        outcome,
-        list,
-        count: made.count,
-    }
+    let is_said = made.count == holes_said(reply);
+    say_reply(reply, half_edges);
+    end_line(is_said && is_kept(reply, old, new, &before, &after));
+    say_rings(
+        reply,
+        half_edges,
+        ring_first,
+        ring_length,
+        ring_face,
+        ring_side,
+        ring_area,
+    );
+    say_holes(list, made.count);
+    new
 }

@@ -1,4 +1,7 @@
 // Holes: for each open ring the enclosed ring that holds it, all in whole numbers (document 02, §2).
+mod finding;
+
+pub use finding::holes_of_rings;
 ghost use mathlib.Core.Path.{_≡_};
 ghost use mathlib.Core.List.{List, map};
 ghost use Prim.Native.Nat.{ℕ, _<_, _≤_};
@@ -142,7 +145,7 @@ fn holes_of_map(
 }
 
 // A record for each open ring of the lists, in ring order. Coordinates become whole numbers once.
-pub fn find_holes(
+fn find_holes(
     node_count: u16,
     nodes_x: &[f64],
     nodes_y: &[f64],

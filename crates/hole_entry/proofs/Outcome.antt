@@ -34,10 +34,10 @@ use Rattle.holes.specs.Lent.{holeOf, lentHoles}
 use Rattle.hole_entry.specs.declared.Ringed.{Ringed}
 use Rattle.hole_entry.specs.declared.Made.{Made}
 use Rattle.hole_entry.specs.Replies.{ringsReply, answerOf}
-use Rattle.hole_entry.specs.Clause.{lent}
-use Rattle.hole_entry.specs.Checks.{HolesChecked}
+use Rattle.hole_checks.specs.Clause.{lent}
+use Rattle.hole_checks.specs.Checks.{HolesChecked}
 use Rattle.hole_entry.specs.Making.{TurnedDown, RingsMade, writtenOver, Makes}
-use Rattle.hole_entry.proofs.Tests.{extract-passes}
+use Rattle.hole_checks.proofs.Tests.{extract-passes}
 
 -- the census has no more edges than there may be
 pub census-few : (l : Limits) (s : State) (out written : RingLists) (x : Extracted) → sound l s ≡ true → Extraction s out written x → x .census .edges ≤ l .edges

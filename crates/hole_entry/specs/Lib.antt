@@ -1,6 +1,3 @@
--- What ring extraction with the hole list asks, answers and ensures, and what its parts say.
+-- What ring extraction with the hole list answers, and what its core makes. Its clause is in hole_checks.
 pub mod Replies
-pub mod Clause
-pub mod Checks
 pub mod Making
-pub mod Finding

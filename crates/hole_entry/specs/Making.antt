@@ -17,7 +17,7 @@ use Rattle.holes.specs.Lent.{lentHoles}
 use Rattle.hole_entry.specs.declared.RingsReply.the-variants.{Refused}
 use Rattle.hole_entry.specs.declared.Made.{Made}
 use Rattle.hole_entry.specs.Replies.{ringsReply, answerOf}
-use Rattle.hole_entry.specs.Clause.{lent, Extracts}
+use Rattle.hole_checks.specs.Clause.{lent, Extracts}
 
 -- a refusal, and no hole
 pub record TurnedDown (graph : PlanarGraph) (why : Refusal) (r : Made) : Type 0 where

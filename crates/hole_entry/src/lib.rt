@@ -1,18 +1,16 @@
 // Ring extraction with the hole list: stage 3 to 4. A lent slice of records is covered by no rule of
 // the prover, so the entry, which is proved by hand, only calls the core and has the records written.
-mod checks;
-mod finding;
 mod making;
 
 ghost use Rattle.rules.specs.Limits.{limits};
 ghost use Rattle.tables.specs.Regions.{stateIn};
 ghost use Rattle.extracting.specs.Extraction.{listsOf};
 ghost use Rattle.hole_entry.specs.Replies.{ringsReply};
-ghost use Rattle.hole_entry.specs.Clause.{lentOf, Extracts};
+ghost use Rattle.hole_checks.specs.Clause.{lentOf, Extracts};
 ghost use Rattle.hole_entry.specs.Making.{TurnedDown, Makes};
 use calls::Checked;
-use checks::check_holes;
 use cycles::Census;
+use hole_checks::check_holes;
 use holes::Hole;
 use making::extract_checked;
 use tables::MAX_SHAPED;

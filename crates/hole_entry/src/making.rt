@@ -14,8 +14,8 @@ ghost use Rattle.hole_entry.specs.Making.{RingsMade};
 use crate::Made;
 use crate::Ringed;
 use crate::RingsReply;
-use crate::finding::holes_of_rings;
 use extracting::Extracted;
+use holders::holes_of_rings;
 use ring_entry::extract_regions;
 use tables::PlanarGraph;
 

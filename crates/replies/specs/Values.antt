@@ -1,11 +1,10 @@
 -- The values of each reply, as numbers in the order in which they are written.
 use Prim.Native.Nat.{ℕ}
 use mathlib.Core.Bool.{cond}
-use mathlib.Core.List.{List, [], _∷_, _++_}
+use mathlib.Core.List.{List, [], _∷_}
 use Rattle.rules.specs.Adding.{Nothing, Added}
 use Rattle.rules.specs.Euler.{Census}
 use Rattle.rules.specs.Stages.{Cutting}
-use Rattle.rules.specs.Extraction.{RingAnswer}
 
 -- success alone
 abbrev pub noValues : Nothing → List ℕ
@@ -25,7 +24,3 @@ censusValues n c = n ∷ c .vertices ∷ c .edges ∷ c .cycles ∷ c .pieces �
 
 abbrev pub cutValues : Cutting → List ℕ
 cutValues a = censusValues (a .count) (a .census)
-
--- the count, the census, the comparisons of naming, and how many half-edges and holes were written
-abbrev pub ringValues : RingAnswer → List ℕ
-ringValues a = censusValues (a .ringing .count) (a .ringing .census) ++ (a .ringing .comparisons ∷ a .halfEdges ∷ a .holes ∷ [])

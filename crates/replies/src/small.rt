@@ -17,9 +17,6 @@ pub const COUNT_LENGTH: usize = 1;
 // A count, V, E, cycles, C and the verdict.
 pub const CENSUS_LENGTH: usize = 6;
 
-// Behind these the comparisons of naming, and how many half-edges and holes were written.
-pub const RINGS_LENGTH: usize = CENSUS_LENGTH + 3;
-
 // A stage is a byte; 255 stands for a number that is none, and is no stage either.
 fn read_stage(number: u16) -> u8
     ensures { λ r. ⌜ r ≡ stageIn number ⌝ }

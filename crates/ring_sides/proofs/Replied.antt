@@ -21,7 +21,7 @@ use Rattle.rules.proofs.Replies.{over-front, rings-of-halves, ring-step-passed}
 use Rattle.rules.proofs.ExtractionLaws.{extraction-rules}
 use Rattle.ring_tally.specs.Sides.{sideOf, sideIn, numberIn, shownIn}
 use Rattle.rings.proofs.Meaning.{sides-exact, sides-replied}
-use Rattle.hole_entry.specs.Clause.{Extracts}
+use Rattle.hole_checks.specs.Clause.{Extracts}
 use Rattle.ring_sides.specs.Sides.{sideAt, sideFrom}
 use Rattle.ring_sides.specs.declared.SideReply.the-variants.{Side}
 use Rattle.ring_sides.proofs.Reading.{side-back, within-lists}

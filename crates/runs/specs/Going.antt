@@ -16,7 +16,7 @@ use Rattle.create_entry.specs.Clause.{Creates}
 use Rattle.sort_entry.specs.Clause.{Sorts}
 use Rattle.prune_entry.specs.Clause.{Prunes}
 use Rattle.cut_entry.specs.Clause.{Cuts}
-use Rattle.hole_entry.specs.Clause.{Extracts}
+use Rattle.hole_checks.specs.Clause.{Extracts}
 use Rattle.reset_entry.specs.Clause.{Resets}
 use Rattle.runs.specs.Runs.{Step, added, filed, sorted, pruned, cut, extracted, reset, Meets, Run, ends}
 

@@ -24,7 +24,7 @@ use Rattle.sort_entry.specs.Clause.{Sorts}
 use Rattle.prune_entry.specs.Clause.{Prunes}
 use Rattle.cut_entry.specs.Clause.{Cuts}
 use Rattle.runs.specs.Tallying.{Adding}
-use Rattle.hole_entry.specs.Clause.{Extracts}
+use Rattle.hole_checks.specs.Clause.{Extracts}
 use Rattle.reset_entry.specs.Clause.{Resets}
 
 -- a call of a run, with what came out of it

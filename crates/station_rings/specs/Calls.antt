@@ -2,7 +2,7 @@
 use Rattle.rules.specs.Limits.{limits}
 use Rattle.rules.specs.Extraction as rules
 use Rattle.rules.specs.Extraction.{extract}
-use Rattle.replies.specs.Values.{ringValues}
+use Rattle.ring_replies.specs.Values.{ringValues}
 use Rattle.replies.specs.Left.{Lent, heldIn, Left, asked}
 
 abbrev pub ringed : Lent rules.Lent → Left rules.Lent

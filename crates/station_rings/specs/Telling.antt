@@ -9,7 +9,7 @@ use Rattle.rules.specs.Ringing.{RingLists}
 use Rattle.rules.specs.Holes.{Hole}
 use Rattle.rules.specs.Extraction as rules
 use Rattle.holes.specs.Lent.{lentHoles}
-use Rattle.hole_entry.specs.Clause as entry
+use Rattle.hole_checks.specs.Clause as entry
 use Rattle.replies.specs.Left.{Lent, lent, gives}
 use Rattle.station_rings.specs.declared.telling.Told.{Told}
 use Rattle.station_rings.specs.Calls.{ringed}

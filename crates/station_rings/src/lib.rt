@@ -5,12 +5,12 @@ mod telling;
 
 ghost use mathlib.Core.Path.{_≡_};
 ghost use Rattle.extracting.specs.Extraction.{listsOf};
-ghost use Rattle.hole_entry.specs.Clause.{lentOf};
+ghost use Rattle.hole_checks.specs.Clause.{lentOf};
 ghost use Rattle.replies.specs.Left.{lent, gives};
 ghost use Rattle.station_rings.specs.Calls.{ringed};
 use holes::Hole;
-use replies::RINGS_LENGTH;
 use replies::STATE_LENGTH;
+use ring_replies::RINGS_LENGTH;
 use telling::rings_core;
 
 // Lists the rings and their holes. The reply is the rings' count, V, E, cycles, C, the verdict, the

@@ -9,7 +9,7 @@ use Rattle.tables.proofs.SliceRoom.{room-of}
 use Rattle.extracting.specs.Extraction.{listsOf}
 use Rattle.extracting.proofs.Outcome.{long-room}
 use Rattle.calls.specs.declared.checks.Checked.the-variants.{Passed}
-use Rattle.hole_entry.specs.Checks.{HolesChecked}
+use Rattle.hole_checks.specs.Checks.{HolesChecked}
 use Rattle.hole_entry.proofs.Outcome.{refused-made, done-made}
 use borrow.Author.Needs.{needs}
 use Rattle.hole_entry.proofs.extract_core.Statement.{statement}

@@ -10,7 +10,7 @@ use Rattle.tables.specs.Regions.{stateIn}
 use Rattle.extracting.specs.Extraction.{listsOf}
 use Rattle.hole_entry.specs.declared.RingsReply.{RingsReply}
 use Rattle.hole_entry.specs.declared.Ringed.{Ringed}
-use Rattle.hole_entry.specs.Finding.{RingsGiven}
+use Rattle.holders.specs.Finding.{RingsGiven}
 use Rattle.hole_entry.proofs.Outcome.{census-few}
 use borrow.Author.Needs.{needs}
 use Rattle.hole_entry.proofs.making.extract_checked.Statement.{statement}

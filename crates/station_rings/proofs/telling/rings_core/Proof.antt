@@ -12,7 +12,7 @@ use Rattle.extracting.specs.Extraction.{listsOf}
 use Rattle.holes.specs.Lent.{lentHoles}
 use Rattle.hole_entry.specs.Replies.{ringsReply}
 use Rattle.hole_entry.proofs.Refusals.{extract-keeps}
-use Rattle.replies.specs.Values.{ringValues}
+use Rattle.ring_replies.specs.Values.{ringValues}
 use Rattle.replies.specs.Left.{Lent, lent, heldIn, gives}
 use Rattle.replies.proofs.Handing.{bytes-read, checkOf, check-read, bytes-enough, turned-away, let-in, settled}
 use Rattle.station_rings.specs.declared.telling.Told.{Told}

@@ -1,0 +1,4 @@
+-- the tests of ring extraction
+pub mod Tests
+-- how many rings are open
+pub mod Opening

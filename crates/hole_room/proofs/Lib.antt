@@ -1,2 +1,0 @@
--- How many rings are open.
-pub mod Opening

@@ -1,2 +1,0 @@
--- The open rings of a list of sides.
-pub mod Open

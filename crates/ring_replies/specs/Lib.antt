@@ -1,0 +1,2 @@
+-- The values of the reply.
+pub mod Values
