@@ -32,11 +32,11 @@ use Rattle.tables.specs.declared.Refusal.the-variants.{NotWhole, SameNode, TooM
 use Rattle.adding.specs.declared.Ends.{Ends}
 use Rattle.adding.specs.declared.Decision.{Decision}
 use Rattle.adding.specs.declared.Decision.the-variants.{Make, Enter, Keep, Refuse}
-use Rattle.adding.specs.Searches.{Searchable, Found, findNodeIn, findHalfIn, endsBy}
-use Rattle.adding.specs.Decisions.{decisionBy, decisionIn}
+use Rattle.searching.specs.Searches.{Searchable, Found, findNodeIn, findHalfIn}
+use Rattle.adding.specs.Decisions.{decisionBy, decisionIn, endsBy}
 use Rattle.adding.specs.Written.{Makeable}
 use Rattle.adding.specs.Outcomes.{Ready}
-use Rattle.adding.proofs.Apart.{ends-half}
+use Rattle.adding.proofs.Between.{ends-half}
 use Rattle.adding.proofs.Deciding.{known-there, free-within}
 
 -- what a decision answers and leaves; a pair goes to the lowest free place

@@ -18,8 +18,7 @@ use Rattle.rules.specs.Limits.{Limits}
 use Rattle.tables.specs.declared.Refusal.the-variants.{NotWhole, SameNode}
 use Rattle.adding.specs.declared.Decision.{Decision}
 use Rattle.adding.specs.declared.Decision.the-variants.{Refuse}
-use Rattle.adding.specs.Searches.{endsBy}
-use Rattle.adding.specs.Decisions.{idDecision, roomDecision, decisionBy}
+use Rattle.adding.specs.Decisions.{idDecision, roomDecision, decisionBy, endsBy}
 
 module _ (nodes : ℕ) (u w : NodeId) where
   -- both are new: the end comes after the start

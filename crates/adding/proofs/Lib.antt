@@ -1,6 +1,5 @@
 -- Laws that the proofs of the functions share.
-pub mod Walks
-pub mod Apart
+pub mod Between
 pub mod Deciding
 pub mod Making
 pub mod Carrying

@@ -1,8 +1,8 @@
 -- What an addition to a sound graph comes to, before anything is written.
-use Prim.Native.Nat.{ℕ, _+_, _*_}
+use Prim.Native.Nat.{ℕ, suc, _+_, _*_}
 use mathlib.Core.Bool.{Bool, cond, _&&_}
 use mathlib.Core.List.{List}
-use lib.Dec.{ltb, leb}
+use lib.Dec.{eqb, ltb, leb}
 use lib.Ieee.{Float}
 use Rattle.geometry.specs.Angle.{planar}
 use Rattle.geometry.specs.declared.Line3D.{Line3D}
@@ -12,10 +12,19 @@ use Rattle.rules.specs.HalfEdge.{edgeOf}
 use Rattle.rules.specs.Limits.{Limits}
 use Rattle.tables.specs.declared.ids.EdgeId.{EdgeId}
 use Rattle.tables.specs.declared.Refusal.the-variants.{NotWhole, SameNode, TooManyNodes, TooManyEdges, TooManyPairs}
+use Rattle.searching.specs.Searches.{findNodeIn, findHalfIn}
 use Rattle.adding.specs.declared.Ends.{Ends}
 use Rattle.adding.specs.declared.Decision.{Decision}
 use Rattle.adding.specs.declared.Decision.the-variants.{Make, Enter, Keep, Refuse}
-use Rattle.adding.specs.Searches.{findNodeIn, findHalfIn, endsBy}
+
+-- the nodes of a line's ends, from the nodes u and w found for them: these, or the next ones, the start's first
+abbrev pub endsBy : ℕ → ℕ → ℕ → Ends
+endsBy nodes u w = record {
+  start = record { 0 = u };
+  end = record { 0 = cond (eqb u nodes && eqb w nodes) (suc nodes) w };
+  «new_start» = eqb u nodes;
+  «new_end» = eqb w nodes;
+}
 
 -- number 12, where a decision needs a pair: p is the lowest free place
 abbrev pub pairDecision : Limits → ℕ → Decision → Decision

@@ -1,13 +1,12 @@
-// Adding a line: the search for its ends and for an edge between them, and what the addition comes to
-// before anything is written. Carried over from `add_node` and `add_line` of planar_graph.rs.
+// Adding a line: what the addition comes to, from what was found for its ends, before anything is
+// written. Carried over from `add_node` and `add_line` of planar_graph.rs.
 ghost use mathlib.Core.Path.{_≡_};
 ghost use mathlib.Core.Bool.{cond};
 ghost use Prim.Native.Nat.{_+_, _≤_};
 ghost use Rattle.rotation.specs.Rotation.{keySame};
 ghost use Rattle.rules.specs.Keys.{keyOf};
 ghost use Rattle.rules.specs.Limits.{limits};
-ghost use Rattle.adding.specs.Searches.{endsBy};
-ghost use Rattle.adding.specs.Decisions.{pairDecision, idDecision, roomDecision, decisionBy};
+ghost use Rattle.adding.specs.Decisions.{pairDecision, idDecision, roomDecision, decisionBy, endsBy};
 ghost use Rattle.adding.specs.Written.{grownBy};
 use geometry::Coord3D;
 use geometry::Line3D;
@@ -17,14 +16,6 @@ use tables::NodeId;
 use tables::PlanarGraph;
 use tables::Refusal;
 use tables::wide;
-
-mod search;
-
-pub use search::find_edge;
-pub use search::find_half;
-pub use search::find_node;
-pub use search::goes;
-pub use search::has_key;
 
 // What an addition answers: a new edge, the edge that joined the two nodes before, or a refusal.
 pub enum AddReply {

@@ -23,7 +23,7 @@ pub fn say_number(n: u64) {
 // A number with a minus sign where it is negative.
 pub fn say_signed(n: i64) {
     let mut text = [0u8; LONGEST];
-    let end = listing_text::put_signed(&mut text, 0, n);
+    let end = number_text::put_signed(&mut text, 0, n);
     say(&text[..end]);
 }
 

@@ -12,7 +12,7 @@ use Rattle.rules.specs.Limits.{limits}
 use Rattle.rules.specs.State.{State}
 use Rattle.rules.specs.Adding.{Outcome, Nothing, add}
 use Rattle.rules.specs.Adding as rules
-use Rattle.adding.specs.Searches.{Searchable}
+use Rattle.searching.specs.Searches.{Searchable}
 use Rattle.adding.specs.Outcomes.{Ready}
 use Rattle.adding.proofs.Carrying.{searchable, ready-again}
 use Rattle.adding.proofs.Kept.{Kept, add-kept, star-below}

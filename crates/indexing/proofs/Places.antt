@@ -24,8 +24,8 @@ use Rattle.tables.specs.declared.PlanarGraph.{PlanarGraph}
 use Rattle.line_ids.specs.Free.{usedMarks, Ending, freeFrom, FreeAt}
 use Rattle.line_ids.proofs.FreePlace.{free-is, free-start, free-next, free-stay}
 use Rattle.adding.specs.Outcomes.{Ready}
-use Rattle.adding.specs.Searches.{Found, findNodeIn, findHalfIn}
-use Rattle.adding.proofs.Apart.{ends-half}
+use Rattle.searching.specs.Searches.{Found, findNodeIn, findHalfIn}
+use Rattle.adding.proofs.Between.{ends-half}
 use Rattle.adding.proofs.Carrying.{between, searchable}
 use Rattle.placing.proofs.Seekable.{seekable-in, ending-in}
 use Rattle.making.specs.Matching.{PlacedIn}

@@ -8,7 +8,7 @@ use lib.Signed.{mag}
 use lib.ListN.{length, getD, length-append}
 use Rattle.file_rules.specs.Lines.{verdict, headLine, spaced, startingNodes, ringLine, refusalLine}
 use Rattle.listing_text.specs.Rooms.{headRoom, ringRoom, refusalRoom}
-use Rattle.listing_text.proofs.Decimals.{decimal-64, decimal-16, signed-64}
+use Rattle.number_text.proofs.Decimals.{decimal-64, decimal-16, signed-64}
 
 verdict-short : (b : Bool) → length (verdict b) ≤ 10
 verdict-short true = omega arith

@@ -1,4 +1,3 @@
--- Laws on decimals, and on how long the lines are.
-pub mod Decimals
+-- Laws on how long the lines are.
 pub mod Lengths
 pub mod Nodes

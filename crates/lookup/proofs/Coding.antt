@@ -14,7 +14,7 @@ use Rattle.chains.specs.Chains.{lowestOf}
 use Rattle.chains.proofs.Walking.{lowest-upto, lowest-take}
 use Rattle.rotation.specs.Rotation.{Key, keySame}
 use Rattle.rules.specs.State.{keyIn}
-use Rattle.adding.specs.Searches.{findNodeIn, findHalfIn}
+use Rattle.searching.specs.Searches.{findNodeIn, findHalfIn}
 use Rattle.lookup.specs.Codes.{nodeHeads, halfHeads, keyCode, pairCode, nodeCode, halfCode}
 
 -- ---- where codes lie

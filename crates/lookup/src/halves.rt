@@ -4,7 +4,7 @@ ghost use mathlib.Core.Path.{_≡_};
 ghost use Prim.Native.Nat.{ℕ, _+_, _*_, _<_, _≤_};
 ghost use lib.ListN.{length, getD};
 ghost use Rattle.rules.specs.Limits.{limits};
-ghost use Rattle.adding.specs.Searches.{findHalfIn};
+ghost use Rattle.searching.specs.Searches.{findHalfIn};
 ghost use Rattle.lookup.specs.Codes.{halfHeads, pairCode};
 ghost use Rattle.lookup.specs.Indexed.{HalvesChained};
 use crate::codes::HALF_HEADS;
@@ -64,7 +64,7 @@ pub fn find_half(
     while 0 < at {
         let i = (at - 1) as usize;
         let h = nodes_outgoing[i];
-        if adding::goes(dir_edges_src, dir_edges_dst, DirEdgeId(h), u, v) {
+        if searching::goes(dir_edges_src, dir_edges_dst, DirEdgeId(h), u, v) {
             found = h;
         }
         at = half_chains[HALF_HEADS + i];

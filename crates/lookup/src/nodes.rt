@@ -3,7 +3,7 @@ ghost use mathlib.Core.Path.{_≡_};
 ghost use Prim.Native.Nat.{_+_, _<_, _≤_};
 ghost use lib.ListN.{length};
 ghost use Rattle.rules.specs.Keys.{keyOf};
-ghost use Rattle.adding.specs.Searches.{findNodeIn};
+ghost use Rattle.searching.specs.Searches.{findNodeIn};
 ghost use Rattle.lookup.specs.Codes.{nodeHeads, nodeCode};
 ghost use Rattle.lookup.specs.Indexed.{NodesChained};
 use crate::codes::NODE_HEADS;
@@ -56,7 +56,7 @@ pub fn find_node(
     while 0 < at {
         let n = at - 1;
         let i = n as usize;
-        if adding::has_key(nodes_x, nodes_y, NodeId(n), bits_x, bits_y) {
+        if searching::has_key(nodes_x, nodes_y, NodeId(n), bits_x, bits_y) {
             found = n;
         }
         at = node_chains[NODE_HEADS + i];

@@ -25,7 +25,7 @@ use Rattle.tables.specs.declared.PlanarGraph.{PlanarGraph}
 use Rattle.tables.specs.declared.ids.EdgeId.{EdgeId}
 use Rattle.tables.proofs.SliceRoom.{room-of}
 use Rattle.adding.specs.Outcomes.{Ready}
-use Rattle.adding.specs.Searches.{findHalfIn}
+use Rattle.searching.specs.Searches.{findHalfIn}
 use Rattle.adding.specs.declared.Decision.the-variants.{Enter}
 use Rattle.adding.proofs.Carrying.{between, decided, enterable}
 use Rattle.table_entries.specs.Written.{IdRoom}

@@ -12,7 +12,7 @@ use Rattle.rules.specs.LineIds.{listEnd, placesOf, usedPlaces, lowestFree, last
 use Rattle.rules.specs.State.{State}
 use Rattle.tables.specs.Regions.{xsIn, ysIn, sourcesIn, targetsIn, starTableIn, leastFloats, leastNumbers, leastStars}
 use Rattle.tables.specs.declared.PlanarGraph.{PlanarGraph}
-use Rattle.adding.specs.Searches.{Searchable, Found}
+use Rattle.searching.specs.Searches.{Searchable, Found}
 use Rattle.making.specs.declared.Matches.{Matches}
 use Rattle.making.specs.declared.IdPlace.{IdPlace}
 

@@ -13,7 +13,7 @@ use Rattle.file_rules.specs.RingFile.{FileRings, ringRoom, ringAt, cutOut, ring
 use Rattle.file_rules.proofs.RingFileCalls.{sent, sending, write-is}
 use Rattle.ring_writing.specs.Rings.{bytesAt, writableAt, sizesAt}
 use Rattle.ring_writing.proofs.Places.{bytes-size}
-use Rattle.ring_reading.proofs.Lists.{written-front}
+use Rattle.ring_taking.proofs.Lists.{written-front}
 
 module _ (t : FileRings) (out : List ℕ) where
   -- the test of the rings at these places

@@ -8,9 +8,9 @@ ghost use Rattle.ring_file.specs.Answers.{writtenOf, readOf};
 use ring_reading::RingFileRefusal;
 use ring_reading::Survey;
 use ring_reading::survey_file;
-use ring_reading::take_rings;
-use ring_writing::all_writable;
-use ring_writing::bytes_fit;
+use ring_room::all_writable;
+use ring_room::bytes_fit;
+use ring_taking::take_rings;
 use ring_writing::put_rings;
 
 // The bytes written, or why none were.

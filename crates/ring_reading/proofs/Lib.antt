@@ -1,6 +1,3 @@
--- Signed numbers by their bits, a ring's record, a file read record by record, and rings in lent lists.
-pub mod Bits
+-- A ring's record, and a file read record by record.
 pub mod Records
 pub mod Progress
-pub mod Lists
-pub mod Filling

@@ -1,3 +1,2 @@
 -- What the code's answers say in the definitions' words.
 pub mod Found
-pub mod Taken

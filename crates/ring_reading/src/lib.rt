@@ -1,5 +1,4 @@
-// Rings out of the bytes of a file: what a place holds, how many rings and nodes there are, and the
-// rings into lent lists.
+// Rings in the bytes of a file: what a place holds, and how many rings and nodes there are.
 ghost use mathlib.Core.Path.{_≡_};
 ghost use Prim.Native.Nat.{_+_};
 ghost use lib.ListN.{drop};
@@ -9,15 +8,10 @@ ghost use Rattle.ring_reading.specs.Found.{numberOf, foundOf, surveyOf, 
 use frames::FileRefusal;
 use frames::Frame;
 
-mod numbers;
-mod taking;
-
-pub use taking::take_rings;
-
 // What a ring's record has besides its nodes, and for each node.
-const FIXED_BYTES: usize = frames::LENGTH_BYTES + frames::RING_HEAD as usize;
+pub const FIXED_BYTES: usize = frames::LENGTH_BYTES + frames::RING_HEAD as usize;
 
-const NODE_BYTES: usize = 2;
+pub const NODE_BYTES: usize = 2;
 
 // Where in a ring's record its count of nodes stands.
 const COUNT_AT: usize = 8;

@@ -1,4 +1,3 @@
--- lists of numbers, by how often each stands in them
 -- the cycles of a function that permutes the active half-edges
 pub mod Walks
 pub mod CycleLaws
@@ -50,28 +49,16 @@ pub mod Growing
 pub mod Joining
 pub mod Additions
 pub mod Histories
--- the face to the left
-pub mod LeftFaces
-pub mod LeftOnly
-pub mod LeftSketches
-pub mod Mirrored
 -- what pruning leaves
 pub mod Dangles
 pub mod PruneEnds
 pub mod PrunedTables
--- pruning in any order
-pub mod AnyOrder
-pub mod PruneOrder
-pub mod PrunedEdges
-pub mod PrunedLines
-pub mod LooseEnds
 -- pieces: nodes that paths join, and their numbers
 pub mod Values
 pub mod Spreading
 pub mod Roots
 pub mod PieceCounts
 pub mod CountsAgree
-pub mod EulerFormulas
 pub mod Orders
 pub mod PieceNumbers
 -- facts back into tests

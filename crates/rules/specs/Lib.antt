@@ -5,14 +5,11 @@ pub mod Keys
 pub mod Angle
 pub mod Cycles
 pub mod Sane
-pub mod LeftFace
 pub mod Split
 pub mod Prune
 pub mod Counted
-pub mod AnyOrder
 pub mod Euler
 pub mod Paths
-pub mod EulerFormula
 pub mod Face
 pub mod Naming
 pub mod LineIds

@@ -8,7 +8,7 @@ use lib.Seq.{length-take-le}
 use mir.Syntax.{w64}
 use mir.Val.{toZ, ofZ}
 use Rattle.file_rules.specs.Decimal.{signedDecimal}
-use Rattle.listing_text.proofs.Decimals.{signed-64}
+use Rattle.number_text.proofs.Decimals.{signed-64}
 use Rattle.file_rules.proofs.Signs.{back}
 use borrow.Author.Needs.{needs}
 use Rattle.call_replies.proofs.printing.say_signed.Statement.{statement}

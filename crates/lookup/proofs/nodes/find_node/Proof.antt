@@ -2,7 +2,7 @@
 use Rattle.chains.proofs.Chaining.{chained-less}
 use borrow.Author.Needs.{needs}
 use Prim.Native.Nat.{ℕ, _-_}
-use Rattle.adding.specs.Searches.{findNodeIn}
+use Rattle.searching.specs.Searches.{findNodeIn}
 use native.Mathlib.Omega.{arith}
 use mathlib.Core.Path.{sym, ap, ap₂, _∙_}
 use mathlib.Core.List.{List}

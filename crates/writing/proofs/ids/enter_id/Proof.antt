@@ -5,7 +5,7 @@ use lib.ListN.{getD, set}
 use Rattle.rules.specs.Limits.{limits}
 use Rattle.rules.specs.LineIds.{listEnd}
 use Rattle.tables.specs.Regions.{listPlacesIn, linksIn}
-use Rattle.table_entries.proofs.Stores.{place-read}
+use Rattle.pair_entries.proofs.Stores.{place-read}
 use Rattle.writing.proofs.Entering.{first-entered, behind-entered}
 use borrow.Author.Needs.{needs}
 use Rattle.writing.proofs.ids.enter_id.Statement.{statement}

@@ -1,0 +1,1 @@
+// What holds of every map, and no code needs: as definitions (specs/) with their theorems (proofs/).

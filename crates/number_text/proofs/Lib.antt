@@ -1,0 +1,2 @@
+-- Laws on decimals.
+pub mod Decimals

@@ -1,0 +1,2 @@
+-- Entries stored in regions of a slice.
+pub mod Stores

@@ -1,0 +1,2 @@
+-- Rings taken into lent lists.
+pub mod Taken

@@ -1,0 +1,2 @@
+-- The searches of an addition.
+pub mod Searches
