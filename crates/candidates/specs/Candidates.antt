@@ -1,6 +1,7 @@
 -- The enclosed rings, which may hold an open one: their numbers, and for each five whole numbers: its box and its doubled area.
 use Prim.Native.Nat.{ℕ, _+_, _*_, _<_, _≤_}
 use mathlib.Core.Path.{_≡_}
+use mathlib.Core.Logic.{_⊎_}
 use mathlib.Core.Bool.{Bool, false, _&&_, not}
 use mathlib.Core.List.{List, [], _∷_}
 use lib.IntN.{ℤ, pos}
@@ -9,6 +10,7 @@ use lib.Ieee.{Float, nan}
 use lib.Dec.{eqb}
 use lib.Signed.{ltZ}
 use Rattle.lists.specs.Lists.{below, In}
+use Rattle.rules.specs.Limits.{limits}
 use Rattle.rules.specs.Face.{Ring}
 use Rattle.rules.specs.Holes.{enclosed, ringAt}
 use Rattle.ring_lists.specs.Shown.{HalfOf}
@@ -28,17 +30,29 @@ abbrev pub numbersBy : List ℤ → List ℤ → Sides → ℤ → List ℤ
 numbersBy xs ys s doubled =
     getD xs (s .left) (pos 0) ∷ getD xs (s .right) (pos 0) ∷ getD ys (s .low) (pos 0) ∷ getD ys (s .high) (pos 0) ∷ doubled ∷ []
 
+-- to the right of every point
+abbrev pub nowhere : ℤ
+nowhere = pos 9223372036854775807
+
 -- not beside the box of candidate j
 abbrev pub inBox : List ℤ → ℕ → ℤ → ℤ → Bool
 inBox numbers j x y =
     not (ltZ x (numberAt numbers j 0)) && (not (ltZ (numberAt numbers j 1) x) && (not (ltZ y (numberAt numbers j 2)) && not (ltZ (numberAt numbers j 3) y)))
 
--- the numbers of candidate j bound nodes, and give a doubled area
-pub record Boxed (xs ys : List ℤ) (numbers : List ℤ) (j : ℕ) (nodes : List ℕ) (doubled : ℤ) : Type 0 where
+-- the numbers of candidate j bound nodes
+pub record Bounds (xs ys : List ℤ) (numbers : List ℤ) (j : ℕ) (nodes : List ℕ) : Type 0 where
   pub lowX : (n : ℕ) → In n nodes → ltZ (getD xs n (pos 0)) (numberAt numbers j 0) ≡ false
   pub highX : (n : ℕ) → In n nodes → ltZ (numberAt numbers j 1) (getD xs n (pos 0)) ≡ false
   pub lowY : (n : ℕ) → In n nodes → ltZ (getD ys n (pos 0)) (numberAt numbers j 2) ≡ false
   pub highY : (n : ℕ) → In n nodes → ltZ (numberAt numbers j 3) (getD ys n (pos 0)) ≡ false
+
+-- a ring passes every node, of which there are so many
+abbrev pub PassesAll : ℕ → List ℕ → Type 0
+PassesAll count nodes = (n : ℕ) → n < count → In n nodes
+
+-- the box of candidate j: it bounds the ring's nodes, but where the ring passes every node and can hold nothing, it may be any; and the doubled area
+pub record Boxed (xs ys : List ℤ) (all : ℕ) (numbers : List ℤ) (j : ℕ) (nodes : List ℕ) (doubled : ℤ) : Type 0 where
+  pub box : PassesAll all nodes ⊎ Bounds xs ys numbers j nodes
   pub area : numberAt numbers j 4 ≡ doubled
 
 -- the nodes of ring i in a list that goes ring by ring
@@ -54,19 +68,28 @@ pub record Standing (nodes : List ℕ) (xs ys : List ℤ) (first size : List ℕ
   pub inXs : NodesWithin (nodesAt nodes first size i) (length xs)
   pub inYs : NodesWithin (nodesAt nodes first size i) (length ys)
 
+-- ring i has nodes in the list, of which there are so many, and no more than a graph may have
+pub record Numbered (all : ℕ) (nodes first size : List ℕ) (i : ℕ) : Type 0 where
+  pub inFirst : i < length first
+  pub inSize : i < length size
+  pub within : getD first i 0 + getD size i 0 ≤ length nodes
+  pub low : NodesWithin (nodesAt nodes first size i) all
+  pub few : all ≤ limits .nodes
+
 -- what writing ring i as candidate n asks: the ring stands in the lists with its area, and there is room
-pub record Writable (nodes : List ℕ) (xs ys : List ℤ) (first size : List ℕ) (area : List Float) (i n : ℕ) (rings : List ℕ) (numbers : List ℤ) : Type 0 where
+pub record Writable (nodes : List ℕ) (xs ys : List ℤ) (first size : List ℕ) (area : List Float) (all i n : ℕ) (rings : List ℕ) (numbers : List ℤ) : Type 0 where
   pub stands : Standing nodes xs ys first size i
+  pub numbered : Numbered all nodes first size i
   pub inArea : i < length area
   pub halved : (z : ℤ) × HalfOf (getD area i nan) z
   pub inRings : n < length rings
   pub inNumbers : numbersOf * n + numbersOf ≤ length numbers
 
 -- ring i is candidate n, and the candidates before it stay
-pub record Written (nodes : List ℕ) (xs ys : List ℤ) (first size : List ℕ) (area : List Float) (i n : ℕ) (rings rings′ : List ℕ) (numbers numbers′ : List ℤ) : Type 0 where
+pub record Written (nodes : List ℕ) (xs ys : List ℤ) (first size : List ℕ) (area : List Float) (all i n : ℕ) (rings rings′ : List ℕ) (numbers numbers′ : List ℤ) : Type 0 where
   pub ring : rings′ ≡ set rings n i
   pub long : length numbers′ ≡ length numbers
-  pub boxed : (z : ℤ) → HalfOf (getD area i nan) z → Boxed xs ys numbers′ n (nodesAt nodes first size i) z
+  pub boxed : (z : ℤ) → HalfOf (getD area i nan) z → Boxed xs ys all numbers′ n (nodesAt nodes first size i) z
   pub kept : (k : ℕ) → k < numbersOf * n → getD numbers′ k (pos 0) ≡ getD numbers k (pos 0)
 
 -- what listing asks of ring i: it stands in the lists with its nodes, side and area
@@ -79,20 +102,22 @@ pub record RingListable (rs : List Ring) (nodes : List ℕ) (xs ys : List ℤ) (
   pub halved : HalfOf (getD area i nan) (ringAt rs i .doubled)
 
 -- and of all of them, and of the room for those that are enclosed
-pub record Listable (rs : List Ring) (nodes : List ℕ) (xs ys : List ℤ) (first size side : List ℕ) (area : List Float) (count : ℕ) (rings : List ℕ) (numbers : List ℤ) : Type 0 where
+pub record Listable (rs : List Ring) (nodes : List ℕ) (xs ys : List ℤ) (first size side : List ℕ) (area : List Float) (all count : ℕ) (rings : List ℕ) (numbers : List ℤ) : Type 0 where
   pub counted : count ≡ length rs
   pub inFirst : count ≤ length first
   pub inSize : count ≤ length size
   pub inSide : count ≤ length side
   pub inArea : count ≤ length area
   pub each : (i : ℕ) → i < count → RingListable rs nodes xs ys first size side area i
+  pub low : (i : ℕ) → i < count → NodesWithin (nodesAt nodes first size i) all
+  pub fewNodes : all ≤ limits .nodes
   pub inRings : length (below (λ i. enclosed (ringAt rs i)) count) ≤ length rings
   pub inNumbers : numbersOf * length (below (λ i. enclosed (ringAt rs i)) count) ≤ length numbers
 
 -- the candidates are the enclosed rings among the first n, with their boxes and doubled areas
-pub record Candidates (rs : List Ring) (nodes : List ℕ) (xs ys : List ℤ) (first size : List ℕ) (n : ℕ) (rings : List ℕ) (numbers : List ℤ) (count : ℕ) : Type 0 where
+pub record Candidates (rs : List Ring) (nodes : List ℕ) (xs ys : List ℤ) (first size : List ℕ) (all n : ℕ) (rings : List ℕ) (numbers : List ℤ) (count : ℕ) : Type 0 where
   pub many : count ≡ length (below (λ i. enclosed (ringAt rs i)) n)
   pub inRings : count ≤ length rings
   pub inNumbers : numbersOf * count ≤ length numbers
   pub listed : take count rings ≡ below (λ i. enclosed (ringAt rs i)) n
-  pub each : (j : ℕ) → j < count → Boxed xs ys numbers j (nodesAt nodes first size (getD rings j 0)) (ringAt rs (getD rings j 0) .doubled)
+  pub each : (j : ℕ) → j < count → Boxed xs ys all numbers j (nodesAt nodes first size (getD rings j 0)) (ringAt rs (getD rings j 0) .doubled)

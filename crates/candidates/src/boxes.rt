@@ -1,10 +1,10 @@
 // The numbers of candidates: for each its box and its doubled area.
 ghost use mathlib.Core.Path.{_≡_};
 ghost use Prim.Native.Nat.{_+_, _*_, _≤_};
-ghost use lib.ListN.{length};
+ghost use lib.ListN.{length, set};
 ghost use lib.Seq.{sets};
 ghost use Rattle.corners.specs.Boxes.{SidesWithin};
-ghost use Rattle.candidates.specs.Candidates.{numbersOf, numberAt, numbersBy, inBox};
+ghost use Rattle.candidates.specs.Candidates.{numbersOf, numberAt, numbersBy, nowhere, inBox};
 use corners::Sides;
 use tables::MAX_SHAPED;
 use tables::wide;
@@ -25,6 +25,9 @@ pub const NUMBERS: usize = 5;
 
 // A candidate is a ring with an area.
 pub const CANDIDATE_NUMBERS: usize = NUMBERS * MAX_SHAPED;
+
+// To the right of every point.
+const NOWHERE: i64 = 9223372036854775807;
 
 // Writes the numbers of candidate j.
 pub fn put_numbers(
@@ -48,6 +51,14 @@ pub fn put_numbers(
     numbers[place + LOW_Y] = low_y;
     numbers[place + HIGH_Y] = high_y;
     numbers[place + AREA] = doubled;
+}
+
+// Shuts the box of candidate j: it begins to the right of every point.
+pub fn shut_box(numbers: &mut [i64], j: usize)
+    requires { ⌜ numbersOf * j + numbersOf ≤ length (now numbers) ⌝ }
+    ensures { λ _. ⌜ now (numbers .exit) ≡ set (now (numbers .entry)) (numbersOf * j + 0) nowhere ⌝ }
+{
+    numbers[NUMBERS * j + LOW_X] = NOWHERE;
 }
 
 // Whether the point is not beside the box of candidate j. What lies beside it is not inside the ring.

@@ -111,8 +111,8 @@ module _ (rs : List Ring) (m : Map) (bound slope : ℕ) (rings : List ℕ) (numb
         ring : Ring
         ring = ringAt rs (getD rings j 0)
 
-        box : Boxed (field .along) (m .ys) numbers j (ringNodes g (ring .halfEdges)) (ring .doubled)
-        box = subst (λ l. Boxed (field .along) (m .ys) numbers j l (ring .doubled)) (laid .nodes) (field .candidates .each j low)
+        box : Boxed (field .along) (m .ys) bound numbers j (ringNodes g (ring .halfEdges)) (ring .doubled)
+        box = subst (λ l. Boxed (field .along) (m .ys) bound numbers j l (ring .doubled)) (laid .nodes) (field .candidates .each j low)
 
         same : holdsBy at (ringNodes g (ring .halfEdges)) inner ≡ holdsAt rs m o rings j
         same = (λ t. holdsBy at (ringNodes g (ring .halfEdges)) (opening .nodes t)) ∙ sym (holds-by at g ring o (laid .joined))
@@ -120,8 +120,8 @@ module _ (rs : List Ring) (m : Map) (bound slope : ℕ) (rings : List ℕ) (numb
         within : holdsAt rs m o rings j ≡ true → inBox numbers j x y ≡ true
         within h =
             (λ t. inBox numbers j (opening .isX t) (opening .isY t))
-            ∙ held-in-box slope (m .xs) (m .ys) (field .along) numbers j bound (field .slanted) g (ring .halfEdges) inner (ring .doubled) box (laid .joined)
-            (nodes-within (ring .halfEdges) (m .source) bound (laid .within)) corner (opening .leftmost) (same ∙ h)
+            ∙ held-in-box slope (m .xs) (m .ys) (field .along) numbers j bound (field .slanted) g (ring .halfEdges) inner (laid .joined)
+            (nodes-within (ring .halfEdges) (m .source) bound (laid .within)) corner (opening .leftmost) (ring .doubled) box (opening .within) (same ∙ h)
 
     -- it lies beside where it begins to the right of the corner
     pub beside-left : ltZ x (numberAt numbers j 0) ≡ true → holdsAt rs m o rings j ≡ false

@@ -22,7 +22,7 @@ pub record Field (rs : List Ring) (m : Map) (bound slope : ℕ) (rings : List �
   pub known : bound ≤ outside
   pub along : List ℤ
   pub slanted : Slanted slope (m .xs) (m .ys) bound along
-  pub candidates : Candidates rs (m .nodes) along (m .ys) (m .first) (m .size) (length rs) rings numbers count
+  pub candidates : Candidates rs (m .nodes) along (m .ys) (m .first) (m .size) bound (length rs) rings numbers count
 
 -- an open ring with its nodes, the node of least x, then least y, among them, and where that lies in the candidates' boxes
 pub record Opening (o : Ring) (m : Map) (bound slope : ℕ) (inner : List ℕ) (corner : ℕ) (x y : ℤ) : Type 0 where

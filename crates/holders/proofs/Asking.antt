@@ -32,7 +32,7 @@ use Rattle.holder_search.proofs.HoldingLaws.{nodes-within}
 module _ (rs : List Ring) (bound : ℕ) (m : Map) (side : List ℕ) (area : List Float) (count : ℕ) (ready : Ready rs bound m side area count) where
   -- its enclosed rings can be listed, where there is room for as many as rings with an area
   pub ready-listable : (rings : List ℕ) (numbers : List ℤ) → shapedRings limits ≤ length rings → numbersOf * shapedRings limits ≤ length numbers
-      → Listable rs (m .nodes) (m .xs) (m .ys) (m .first) (m .size) side area count rings numbers
+      → Listable rs (m .nodes) (m .xs) (m .ys) (m .first) (m .size) side area bound count rings numbers
   ready-listable rings numbers a b = record {
     counted = ready .counted;
     inFirst = omega (arith, ready .counted, ready .map .inFirst);
@@ -40,6 +40,10 @@ module _ (rs : List Ring) (bound : ℕ) (m : Map) (side : List ℕ) (area : List
     inSide = ready .inSide;
     inArea = ready .inArea;
     each = ready .each;
+    low = λ i l.
+        let d = ready .map .each i (omega (arith, l, ready .counted)) in
+        subst (λ k. NodesWithin k bound) (sym (d .nodes)) (nodes-within (ringAt rs i .halfEdges) (m .source) bound (d .within));
+    fewNodes = ready .fewNodes;
     inRings = omega (arith, a, ready .fewEnclosed);
     inNumbers = omega (arith, b, ready .fewEnclosed);
   }
@@ -47,17 +51,10 @@ module _ (rs : List Ring) (bound : ℕ) (m : Map) (side : List ℕ) (area : List
   -- their boxes can be made in any view
   pub ready-boxable : (rings : List ℕ) (numbers : List ℤ) → shapedRings limits ≤ length rings → numbersOf * shapedRings limits ≤ length numbers
       → Boxable rs bound (m .nodes) (m .xs) (m .ys) (m .first) (m .size) side area count rings numbers
-  ready-boxable rings numbers a b = record {
-    fewNodes = ready .fewNodes;
-    spotted = ready .map .spotted;
-    low = λ i l.
-        let d = ready .map .each i (omega (arith, l, ready .counted)) in
-        subst (λ k. NodesWithin k bound) (sym (d .nodes)) (nodes-within (ringAt rs i .halfEdges) (m .source) bound (d .within));
-    listable = ready-listable rings numbers a b;
-  }
+  ready-boxable rings numbers a b = record { spotted = ready .map .spotted; listable = ready-listable rings numbers a b }
 
   module _ (slope : ℕ) (rings : List ℕ) (numbers : List ℤ) (n : ℕ) (along : List ℤ) (slanted : Slanted slope (m .xs) (m .ys) bound along)
-      (listed : Candidates rs (m .nodes) along (m .ys) (m .first) (m .size) count rings numbers n) where
+      (listed : Candidates rs (m .nodes) along (m .ys) (m .first) (m .size) bound count rings numbers n) where
     -- with them the map can be searched
     pub ready-field : Field rs m bound slope rings numbers n
     ready-field = record {
@@ -65,7 +62,7 @@ module _ (rs : List Ring) (bound : ℕ) (m : Map) (side : List ℕ) (area : List
       known = omega (arith, ready .fewNodes);
       along = along;
       slanted = slanted;
-      candidates = subst (λ k. Candidates rs (m .nodes) along (m .ys) (m .first) (m .size) k rings numbers n) (ready .counted) listed;
+      candidates = subst (λ k. Candidates rs (m .nodes) along (m .ys) (m .first) (m .size) bound k rings numbers n) (ready .counted) listed;
     }
 
     -- and they can be ordered
@@ -78,7 +75,7 @@ module _ (rs : List Ring) (bound : ℕ) (m : Map) (side : List ℕ) (area : List
 
 -- rings that can be listed by x can be listed by another table
 pub along-listable : (rs : List Ring) (bound : ℕ) (nodes : List ℕ) (xs ys along : List ℤ) (first size side : List ℕ) (area : List Float) (count : ℕ) (rings : List ℕ) (numbers : List ℤ)
-    → bound ≤ length along → Boxable rs bound nodes xs ys first size side area count rings numbers → Listable rs nodes along ys first size side area count rings numbers
+    → bound ≤ length along → Boxable rs bound nodes xs ys first size side area count rings numbers → Listable rs nodes along ys first size side area bound count rings numbers
 along-listable rs bound nodes xs ys along first size side area count rings numbers long b =
     let l = b .listable in
     record {
@@ -89,7 +86,9 @@ along-listable rs bound nodes xs ys along first size side area count rings numbe
       inArea = l .inArea;
       each = λ i low.
           let e = l .each i low in
-          record { within = e .within; some = e .some; inXs = λ k m. omega (arith, b .low i low k m, long); inYs = e .inYs; sided = e .sided; halved = e .halved };
+          record { within = e .within; some = e .some; inXs = λ k m. omega (arith, l .low i low k m, long); inYs = e .inYs; sided = e .sided; halved = e .halved };
+      low = l .low;
+      fewNodes = l .fewNodes;
       inRings = l .inRings;
       inNumbers = l .inNumbers;
     }

@@ -14,8 +14,8 @@ use Rattle.rules.specs.Ringing.{sideNumber, exactSide}
 use Rattle.rules.specs.Claim.{Joined}
 use Rattle.rules.specs.Holes.{enclosed, isOpen, ringAt}
 use Rattle.ring_lists.specs.Shown.{Shown}
-use Rattle.inside.specs.Spots.{RingWithin, Spotted, NodesWithin}
-use Rattle.candidates.specs.Candidates.{nodesAt, RingListable, Listable}
+use Rattle.inside.specs.Spots.{RingWithin, Spotted}
+use Rattle.candidates.specs.Candidates.{RingListable, Listable}
 use Rattle.holding.specs.Maps.{origins, Starting, Map, Holds}
 use Rattle.hole_listing.specs.Listing.{OpenListed}
 
@@ -60,7 +60,5 @@ pub record Ready (rs : List Ring) (bound : ℕ) (m : Map) (side : List ℕ) (are
 
 -- what boxing the enclosed rings of it asks: nodes that lie at coordinates, and rings that can be listed
 pub record Boxable (rs : List Ring) (bound : ℕ) (nodes : List ℕ) (xs ys : List ℤ) (first size side : List ℕ) (area : List Float) (count : ℕ) (rings : List ℕ) (numbers : List ℤ) : Type 0 where
-  pub fewNodes : bound ≤ limits .nodes
   pub spotted : Spotted coordinateBound bound xs ys
-  pub low : (i : ℕ) → i < count → NodesWithin (nodesAt nodes first size i) bound
-  pub listable : Listable rs nodes xs ys first size side area count rings numbers
+  pub listable : Listable rs nodes xs ys first size side area bound count rings numbers

@@ -47,6 +47,14 @@ module _ (at : ℕ → Point) where
   none-in [] f = refl
   none-in (x ∷ l) f = absurd (f x (in-head x x l refl))
 
+  -- a ring that passes all nodes of another leaves none free, and does not hold it
+  pub none-free : (passed inner : List ℕ) → ((n : ℕ) → In n inner → In n passed) → holdsBy at passed inner ≡ false
+  none-free passed inner all =
+      let none = none-in (free passed inner) (λ w m.
+      let k = pick-in (λ n. not (member n passed)) w inner m in
+      true-is-false (sym (k .1) ∙ ap not (lt-ltb 0 (countOf w passed) (all w (k .0))))) in
+      ap (λ s. s && insideBy at passed (at (foremostOf (leftOf at) 0 (free passed inner)))) none
+
   module _ (l : List ℕ) (n : ℕ) (left : Leftmost at l n) where
     -- where there is no leftmost, there is no test point
     pub no-point : n ≡ outside → someOf l ≡ false

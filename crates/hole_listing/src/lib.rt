@@ -17,7 +17,6 @@ ghost use Rattle.hole_listing.specs.Listing.{OpenListed};
 use candidates::sides_at;
 use holder_search::best_holder;
 use holes::Hole;
-use holes::no_holes;
 use ring_lists::OPEN;
 use ring_lists::doubled_area;
 use tables::MAX_NODES;
@@ -120,7 +119,11 @@ pub fn list_holes(
     ensures holes { λ r. ⌜ ((rs : List Ring) (bound : ℕ) → Field rs (mapOf (now («dir_edges_src» .entry)) (now (xs .entry)) (now (ys .entry)) (now («half_edges» .entry)) (now (nodes .entry)) (now («ring_first» .entry)) (now («ring_length» .entry)) (now («ring_face» .entry))) bound slope (now (rings .entry)) (now (numbers .entry)) count → OpenListed rs (now («ring_side» .entry)) (now («ring_area» .entry)) «ring_count» → bound ≤ limits .nodes → map holeOf (take (r .count) (r .list)) ≡ holesOf (spotIn (now (xs .entry)) (now (ys .entry))) (origins (now («dir_edges_src» .entry))) rs) ⌝ }
     ensures few { λ r. ⌜ (r .count ≤ shapedRings limits) × (length (r .list) ≡ shapedRings limits) ⌝ }
 {
-    let mut list = no_holes();
+    let mut list = [Hole {
+        ring: 0,
+        holder: 0,
+        doubled: 0,
+    }; MAX_SHAPED];
     let mut stamps = [0u16; MAX_NODES];
     let mut k = 0;
     let mut i: u16 = 0;

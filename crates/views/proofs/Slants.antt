@@ -2,7 +2,7 @@
 -- is, so a ring has nothing inside that lies beside it in the slanted view. There a thin ring along a diagonal has a narrow box.
 use Prim.Native.Nat.{ℕ, _%_}
 use native.Mathlib.Omega.{arith}
-use mathlib.Core.Path.{_≡_, sym, ap, ap₂, _∙_}
+use mathlib.Core.Path.{_≡_, sym, ap, ap₂, subst, _∙_}
 use mathlib.Core.Bool.{Bool, true, false, not, _&&_, Bool·beq}
 use mathlib.Core.List.{List}
 use lib.Dec.{eqb}
@@ -14,7 +14,7 @@ use Rattle.lists.proofs.Counts.{by-test, true-is-false}
 use Rattle.lists.proofs.Members.{pick-none}
 use Rattle.lists.proofs.Tests.{no-right}
 use Rattle.geometry.specs.Angle.{Point, orientation}
-use Rattle.geometry.proofs.Integers.{lt-ltZ, leZ-true, leZ-false, diff-var, diff-add, diff-sub, diff-mul, diff-eq}
+use Rattle.geometry.proofs.Integers.{lt-ltZ, leZ-true, leZ-false, diff-var, diff-pos, diff-add, diff-sub, diff-mul, diff-eq}
 use Rattle.rules.specs.HalfEdge.{twin}
 use Rattle.rules.specs.Cycles.{Arrangement}
 use Rattle.rules.specs.Claim.{Joined}
@@ -22,7 +22,17 @@ use Rattle.rules.specs.Holes.{onLine, crossesRight, inside}
 use Rattle.rules.proofs.Crossings.{left-apart, right-crosses}
 use Rattle.rules.proofs.HoleBoxes.{Ends, Boxed, closed-even, ring-above, ring-below}
 use Rattle.inside.specs.Spots.{spot}
-use Rattle.views.specs.Views.{leaned}
+use Rattle.views.specs.Views.{leaned, Slanted}
+
+-- ---- the view that is not slanted
+
+-- nothing is added there
+pub plain : (x y : ℤ) → x ≡ x +ℤ pos 0 *ℤ y
+plain x y = let X = diff-var x in diff-eq X (diff-add X (diff-mul (diff-pos 0) (diff-var y))) (omega arith)
+
+-- so the table of it is that of x
+pub plain-slanted : (slope : ℕ) (xs ys : List ℤ) (count : ℕ) → slope ≡ 0 → Slanted slope xs ys count xs
+plain-slanted slope xs ys count e = subst (λ k. Slanted k xs ys count xs) (sym e) (λ n low. plain (getD xs n (pos 0)) (getD ys n (pos 0)))
 
 -- ---- the orientation stays
 

@@ -11,7 +11,7 @@ ghost use Rattle.views.specs.Views.{alongOf, Slanted};
 use tables::wide;
 
 // The views by number: as it is, and slanted one way and the other.
-const PLAIN: u8 = 0;
+pub const PLAIN: u8 = 0;
 
 const RISING: u8 = 1;
 

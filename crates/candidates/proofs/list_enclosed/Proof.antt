@@ -11,11 +11,11 @@ use Rattle.candidates.proofs.list_enclosed.Statement.{statement}
 use Rattle.candidates.proofs.list_enclosed.Tie as tie
 
 abbrev Inv-loop : tie.InvT-loop
-Inv-loop count nodes xs ys ring-first ring-length ring-side ring-area rings₀ numbers₀ n₀ i₀ rings numbers n i =
-    Gone nodes xs ys ring-first ring-length ring-side ring-area count rings₀ numbers₀ i rings numbers n
+Inv-loop count node-count nodes xs ys ring-first ring-length ring-side ring-area rings₀ numbers₀ n₀ i₀ rings numbers n i =
+    Gone nodes xs ys ring-first ring-length ring-side ring-area node-count count rings₀ numbers₀ i rings numbers n
 
 abbrev μ-loop : tie.MeasureT-loop
-μ-loop count nodes xs ys ring-first ring-length ring-side ring-area rings₀ numbers₀ n₀ i₀ rings numbers n i = count - i
+μ-loop count node-count nodes xs ys ring-first ring-length ring-side ring-area rings₀ numbers₀ n₀ i₀ rings numbers n i = count - i
 
 -- the entry of a turn
 abbrev start : tie.After-shared-slice-known6 Inv-loop μ-loop → tie.Start Inv-loop μ-loop
@@ -36,7 +36,7 @@ tested k = ap (λ n. getD (start k .args .ring-side .now) n 0) (sym (k .before .
 
 -- an enclosed ring can be written
 writable : (f : tie.Then1 Inv-loop μ-loop) → let k = f .before in let a = start k .args in let q = k .before .before .before .loop in
-    Writable (a .nodes .now) (a .xs .now) (a .ys .now) (a .ring-first .now) (a .ring-length .now) (a .ring-area .now) (q .i) (q .n) (q .rings) (q .numbers)
+    Writable (a .nodes .now) (a .xs .now) (a .ys .now) (a .ring-first .now) (a .ring-length .now) (a .ring-area .now) (a .node-count) (q .i) (q .n) (q .rings) (q .numbers)
 writable f =
     let k = f .before in
     let q = k .before .before .before .loop in
@@ -78,7 +78,7 @@ returns c = λ rs given.
     let s = c .before .before .before .before .before .before .before .before in
     let a = s .args in
     let done : q .i ≡ a .count = omega (arith, q .inv .goes, c .loop-test .left) in
-    subst (λ k. Candidates rs (a .nodes .now) (a .xs .now) (a .ys .now) (a .ring-first .now) (a .ring-length .now) k (q .rings) (q .numbers) (q .n)) done (q .inv .listed rs given)
+    subst (λ k. Candidates rs (a .nodes .now) (a .xs .now) (a .ys .now) (a .ring-first .now) (a .ring-length .now) (a .node-count) k (q .rings) (q .numbers) (q .n)) done (q .inv .listed rs given)
 
 pub list-enclosed-spec : {M : Type 1} → statement M
 list-enclosed-spec =

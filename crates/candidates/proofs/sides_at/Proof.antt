@@ -6,6 +6,7 @@ use mathlib.Core.Path.{_≡_, sym, ap, subst, _∙_}
 use lib.ListN.{length, getD, take, drop, length-take, length-drop}
 use Rattle.corners.specs.Boxes.{Outermost}
 use Rattle.candidates.specs.Candidates.{nodesAt}
+use Rattle.candidates.proofs.Covering.{part-is}
 use Rattle.candidates.proofs.sides_at.Statement.{statement}
 use Rattle.candidates.proofs.sides_at.Tie as tie
 use Rattle.inside.specs.Spots.{NodesWithin}
@@ -46,10 +47,8 @@ lent : (c : tie.After-wide3) → let a = entry c .args in let v = c .before .bef
     take (v + c .wide3 .result - v) (drop v (a .nodes .now)) ≡ nodesAt (a .nodes .now) (a .ring-first .now) (a .ring-length .now) (a .i)
 lent c =
     let a = entry c .args in
-    let v = c .before .before .wide2 .result in
     let r = read c in
-    let many : v + c .wide3 .result - v ≡ getD (a .ring-length .now) (a .i) 0 = omega (arith, r .1) in
-    λ i. take (many i) (drop (r .0 i) (a .nodes .now))
+    part-is (a .nodes .now) (a .ring-first .now) (a .ring-length .now) (a .i) (c .before .before .wide2 .result) (c .wide3 .result) (r .0) (r .1)
 
 add-end : tie.Need-add-end
 add-end c = let r = read c in omega (arith, r .0, r .1, entry c .pre .within)

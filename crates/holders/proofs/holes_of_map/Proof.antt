@@ -20,7 +20,7 @@ use Rattle.holders.proofs.holes_of_map.Statement.{statement}
 use Rattle.holders.proofs.holes_of_map.Tie as tie
 
 -- the start, from where the candidates are listed
-abbrev start : tie.After-list-slanted → tie.Start
+abbrev start : tie.After-list-boxed → tie.Start
 start c = c .before .before .before .before .before .before .before .before .before .before .before .before
 
 -- the map of the lists and tables
@@ -39,43 +39,46 @@ abbrev noNumbers : List ℤ
 noNumbers = replicate (numbersOf * shapedRings limits) (pos 0)
 
 -- the candidates
-abbrev rings : tie.After-list-slanted → List ℕ
-rings c = c .list-slanted .last .1 .1 .1 .1 .1 .1 .1 .1 .1 .1 .0
+abbrev rings : tie.After-list-boxed → List ℕ
+rings c = c .list-boxed .last .1 .1 .1 .1 .1 .1 .1 .1 .1 .1 .0
 
-abbrev numbers : tie.After-list-slanted → List ℤ
-numbers c = c .list-slanted .last .1 .1 .1 .1 .1 .1 .1 .1 .1 .1 .1 .0
+abbrev numbers : tie.After-list-boxed → List ℤ
+numbers c = c .list-boxed .last .1 .1 .1 .1 .1 .1 .1 .1 .1 .1 .1 .0
 
 -- they are the enclosed rings, boxed in some view
-listed : (c : tie.After-list-slanted) (rs : List Ring) → let s = start c in let m = here s in ReadyAt s rs
+listed : (c : tie.After-list-boxed) (rs : List Ring) → let s = start c in let m = here s in ReadyAt s rs
     → (along : List ℤ) × Slanted (s .args .slope) (m .xs) (m .ys) (s .args .node-count) along
-    × Candidates rs (m .nodes) along (m .ys) (m .first) (m .size) (s .args .ring-count) (rings c) (numbers c) (c .list-slanted .result)
+    × Candidates rs (m .nodes) along (m .ys) (m .first) (m .size) (s .args .node-count) (s .args .ring-count) (rings c) (numbers c) (c .list-boxed .result)
 listed c rs ready =
     let s = start c in
     let m = here s in
     let w = c .before .before .before .wide in
     let b = ready-boxable rs (s .args .node-count) m (s .args .ring-side .now) (s .args .ring-area .now) (s .args .ring-count) ready noRings noNumbers (omega arith) (omega arith) in
-    let l = c .list-slanted .ensures rs (subst (λ n. Boxable rs n (m .nodes) (m .xs) (m .ys) (m .first) (m .size) (s .args .ring-side .now) (s .args .ring-area .now) (s .args .ring-count) noRings noNumbers) (sym (w .ensures)) b) in
-    (l .0, λ n h. l .1 n (omega (arith, h, w .ensures)), l .2)
+    let l = c .list-boxed .ensures rs (subst (λ n. Boxable rs n (m .nodes) (m .xs) (m .ys) (m .first) (m .size) (s .args .ring-side .now) (s .args .ring-area .now) (s .args .ring-count) noRings noNumbers) (sym (w .ensures)) b) in (
+      l .0,
+      λ n h. l .1 n (omega (arith, h, w .ensures)),
+      subst (λ n. Candidates rs (m .nodes) (l .0) (m .ys) (m .first) (m .size) n (s .args .ring-count) (rings c) (numbers c) (c .list-boxed .result)) (w .ensures) (l .2),
+    )
 
 -- so the map can be searched
-searched : (c : tie.After-list-slanted) (rs : List Ring) → let s = start c in ReadyAt s rs
-    → Field rs (here s) (s .args .node-count) (s .args .slope) (rings c) (numbers c) (c .list-slanted .result)
+searched : (c : tie.After-list-boxed) (rs : List Ring) → let s = start c in ReadyAt s rs
+    → Field rs (here s) (s .args .node-count) (s .args .slope) (rings c) (numbers c) (c .list-boxed .result)
 searched c rs ready =
     let s = start c in
     let l = listed c rs ready in
-    ready-field rs (s .args .node-count) (here s) (s .args .ring-side .now) (s .args .ring-area .now) (s .args .ring-count) ready (s .args .slope) (rings c) (numbers c) (c .list-slanted .result) (l .0) (l .1) (l .2)
+    ready-field rs (s .args .node-count) (here s) (s .args .ring-side .now) (s .args .ring-area .now) (s .args .ring-count) ready (s .args .slope) (rings c) (numbers c) (c .list-boxed .result) (l .0) (l .1) (l .2)
 
 wide-requires : tie.Need-wide-requires
 wide-requires c κs = tt
 
-slice-aggregate-list-slanted : tie.Need-slice-aggregate-list-slanted
-slice-aggregate-list-slanted c = search needs
+slice-aggregate-list-boxed : tie.Need-slice-aggregate-list-boxed
+slice-aggregate-list-boxed c = search needs
 
-slice-aggregate-list-slanted-2 : tie.Need-slice-aggregate-list-slanted-2
-slice-aggregate-list-slanted-2 c = search needs
+slice-aggregate-list-boxed-2 : tie.Need-slice-aggregate-list-boxed-2
+slice-aggregate-list-boxed-2 c = search needs
 
-list-slanted-requires : tie.Need-list-slanted-requires
-list-slanted-requires c κs =
+list-boxed-requires : tie.Need-list-boxed-requires
+list-boxed-requires c κs =
     let w = c .before .before in
     let s = w .before .before .before .before .before .before .before .before .before in
     let m = here s in (
@@ -95,22 +98,22 @@ order-by-start-requires c κs =
     let e = c .before .before .before .before in
     let s = start e in
     let l = listed e (s .pre .0) (s .pre .1) in
-    ready-orderable (s .pre .0) (s .args .node-count) (here s) (s .args .ring-side .now) (s .args .ring-area .now) (s .args .ring-count) (s .pre .1) (s .args .slope) (rings e) (numbers e) (e .list-slanted .result) (l .0) (l .1) (l .2)
+    ready-orderable (s .pre .0) (s .args .node-count) (here s) (s .args .ring-side .now) (s .args .ring-area .now) (s .args .ring-count) (s .pre .1) (s .args .slope) (rings e) (numbers e) (e .list-boxed .result) (l .0) (l .1) (l .2)
     _ (omega arith)
 
 -- there are no more candidates than rings with an area
-few : (c : tie.After-list-slanted) → c .list-slanted .result ≤ shapedRings limits
+few : (c : tie.After-list-boxed) → c .list-boxed .result ≤ shapedRings limits
 few c = let s = start c in omega (arith, listed c (s .pre .0) (s .pre .1) .2 .many, s .pre .1 .fewEnclosed)
 
 -- their order
 abbrev order : tie.After-order-by-start → List ℕ
 order c = c .order-by-start .last .1 .1 .0
 
-ordered : (c : tie.After-order-by-start) → let e = c .before .before .before .before .before in InOrder (numbers e) (e .list-slanted .result) (order c)
+ordered : (c : tie.After-order-by-start) → let e = c .before .before .before .before .before in InOrder (numbers e) (e .list-boxed .result) (order c)
 ordered c =
     let e = c .before .before .before .before .before in
     let s = start e in
-    row-in-order (numbers e) (e .list-slanted .result) (order c) _ (listed e (s .pre .0) (s .pre .1) .2 .inNumbers) (omega (arith, few e, c .order-by-start .kept .1 .1 .0)) (c .order-by-start .ensures)
+    row-in-order (numbers e) (e .list-boxed .result) (order c) _ (listed e (s .pre .0) (s .pre .1) .2 .inNumbers) (omega (arith, few e, c .order-by-start .kept .1 .1 .0)) (c .order-by-start .ensures)
 
 slice-aggregate-write-passing : tie.Need-slice-aggregate-write-passing
 slice-aggregate-write-passing c = search needs
@@ -163,9 +166,9 @@ holes-of-map-spec =
     tie.close
     (tie.spec
     wide-requires
-    slice-aggregate-list-slanted
-    slice-aggregate-list-slanted-2
-    list-slanted-requires
+    slice-aggregate-list-boxed
+    slice-aggregate-list-boxed-2
+    list-boxed-requires
     slice-aggregate-order-by-start
     slice-aggregate-order-by-start-2
     order-by-start-requires

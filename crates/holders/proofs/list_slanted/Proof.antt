@@ -14,7 +14,7 @@ slice-aggregate-write-along : tie.Need-slice-aggregate-write-along
 slice-aggregate-write-along c = search needs
 
 write-along-requires : tie.Need-write-along-requires
-write-along-requires c κs = let b = c .before .before .before .before .before .before .before .pre .1 in (b .spotted, b .fewNodes)
+write-along-requires c κs = let b = c .before .before .before .before .before .before .before .pre .1 in (b .spotted, b .listable .fewNodes)
 
 -- the function's start, and the table that was written
 abbrev start : tie.After-write-along → tie.Start
@@ -26,11 +26,11 @@ along c = c .write-along .last .1 .1 .1 .1 .0
 -- by it the enclosed rings can be listed
 listable : (c : tie.After-write-along) (rs : List Ring) → let a = start c .args in
     Boxable rs (a .node-count) (a .nodes .now) (a .xs .now) (a .ys .now) (a .ring-first .now) (a .ring-length .now) (a .ring-side .now) (a .ring-area .now) (a .ring-count) (a .rings .now) (a .numbers .now)
-    → Listable rs (a .nodes .now) (along c) (a .ys .now) (a .ring-first .now) (a .ring-length .now) (a .ring-side .now) (a .ring-area .now) (a .ring-count) (a .rings .now) (a .numbers .now)
+    → Listable rs (a .nodes .now) (along c) (a .ys .now) (a .ring-first .now) (a .ring-length .now) (a .ring-side .now) (a .ring-area .now) (a .node-count) (a .ring-count) (a .rings .now) (a .numbers .now)
 listable c rs b =
     let a = start c .args in
     along-listable rs (a .node-count) (a .nodes .now) (a .xs .now) (a .ys .now) (along c) (a .ring-first .now) (a .ring-length .now) (a .ring-side .now) (a .ring-area .now) (a .ring-count) (a .rings .now) (a .numbers .now)
-    (omega (arith, b .fewNodes, c .write-along .kept .1 .1 .1 .1 .0)) b
+    (omega (arith, b .listable .fewNodes, c .write-along .kept .1 .1 .1 .1 .0)) b
 
 slice-aggregate-list-enclosed : tie.Need-slice-aggregate-list-enclosed
 slice-aggregate-list-enclosed c = search needs
@@ -39,10 +39,10 @@ list-enclosed-requires : tie.Need-list-enclosed-requires
 list-enclosed-requires c κs = let w = c .before .before .before .before in let s = start w in (s .pre .0, listable w (s .pre .0) (s .pre .1))
 
 same-length : tie.Need-same-length
-same-length c = c .before .before .before .list-enclosed .kept .1 .1 .1 .1 .1 .1 .1 .1 .0
+same-length c = c .before .before .before .list-enclosed .kept .1 .1 .1 .1 .1 .1 .1 .1 .1 .0
 
 same-length-2 : tie.Need-same-length-2
-same-length-2 c = c .before .before .before .list-enclosed .kept .1 .1 .1 .1 .1 .1 .1 .1 .1 .0
+same-length-2 c = c .before .before .before .list-enclosed .kept .1 .1 .1 .1 .1 .1 .1 .1 .1 .1 .0
 
 returns : tie.Need-returns
 returns c =

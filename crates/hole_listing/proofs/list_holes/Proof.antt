@@ -1,7 +1,7 @@
 -- `list_holes` meets its contract. The invariant: the open ones of the rings gone through are recorded.
 use Prim.Native.Nat.{_-_, _<_}
 use native.Mathlib.Omega.{arith}
-use mathlib.Core.Path.{_≡_, sym, ap, subst, _∙_}
+use mathlib.Core.Path.{_≡_, refl, sym, ap, subst, _∙_}
 use mathlib.Core.Logic.{⊎-elim}
 use lib.IntN.{ℤ}
 use lib.ListN.{length, getD, set}
@@ -28,7 +28,7 @@ abbrev μ-loop : tie.MeasureT-loop
 
 -- the function's start, from the loop
 abbrev start : tie.At-loop Inv-loop μ-loop → tie.Start Inv-loop μ-loop
-start l = l .before .before .before .before .before .before .before .before .before .before .before .before .before
+start l = l .before .before .before .before .before .before .before .before .before .before .before .before
 
 -- the loop, from a turn
 abbrev here : tie.After-shared-slice-known12 Inv-loop μ-loop → tie.At-loop Inv-loop μ-loop
@@ -42,11 +42,8 @@ turn c = c .before .before .before .before
 more : (k : tie.After-shared-slice-known12 Inv-loop μ-loop) → here k .loop .i < start (here k) .args .ring-count
 more k = k .before .before .loop-test .taken
 
-no-holes-requires : tie.Need-no-holes-requires Inv-loop μ-loop
-no-holes-requires c κs = tt
-
 loop-holds : tie.Need-loop-holds Inv-loop μ-loop
-loop-holds c = gone-none (c .no-holes .ensures)
+loop-holds c = gone-none refl
 
 wide-requires : tie.Need-wide-requires Inv-loop μ-loop
 wide-requires c κs = tt
@@ -140,7 +137,6 @@ list-holes-spec =
     (tie.spec
     Inv-loop
     μ-loop
-    no-holes-requires
     loop-holds
     wide-requires
     shared-slice-read-if1

@@ -7,6 +7,7 @@ use Rattle.geometry.specs.Coordinate.{coordinateBound}
 use Rattle.geometry.proofs.Integers.{diff-var, diff-pos, diff-neg, diff-add, diff-sub, diff-mul, diff-eq}
 use Rattle.inside.proofs.Words.{word, Sized, given, fits, stored, both, minus}
 use Rattle.views.specs.Views.{slopeOf, alongOf}
+use Rattle.views.proofs.Slants.{plain}
 use Rattle.views.proofs.along_of.Statement.{statement}
 use Rattle.views.proofs.along_of.Tie as tie
 
@@ -17,10 +18,7 @@ x-read s = stored (given (s .args .x) coordinateBound (s .pre .0)) (omega arith)
 y-read : (s : tie.Start) → Sized (word (s .args .y)) (s .args .y) coordinateBound
 y-read s = stored (given (s .args .y) coordinateBound (s .pre .1)) (omega arith)
 
--- what each view adds
-plain : (x y : ℤ) → x ≡ x +ℤ pos 0 *ℤ y
-plain x y = let X = diff-var x in diff-eq X (diff-add X (diff-mul (diff-pos 0) (diff-var y))) (omega arith)
-
+-- what a slanted view adds
 rising : (x y : ℤ) → x +ℤ y ≡ x +ℤ pos 1 *ℤ y
 rising x y =
     let X = diff-var x in
