@@ -5,6 +5,7 @@ use mathlib.Core.Path.{_≡_, refl, ap, ap₂}
 use mathlib.Core.Bool.{Bool, true, false, cond, Bool·beq}
 use mathlib.Core.List.{List, [], _∷_, map}
 use lib.ListN.{length, getD, take, set}
+use borrow.Author.Tests.{ne-eqb}
 use Rattle.lists.proofs.Counts.{by-test}
 use Rattle.lent_marks.specs.Marks.{isSet, blend, blended}
 
@@ -14,13 +15,18 @@ use Rattle.lent_marks.specs.Marks.{isSet, blend, blended}
 blend-same : (b : ℕ) → blend (isSet b) b ≡ b
 blend-same b = by-test (isSet b) (λ e. rw e refl) (λ e. rw e refl)
 
--- a byte that says its mark stays
-pub blend-kept : (mark : Bool) (b : ℕ) → Bool·beq (isSet b) mark ≡ true → blend mark b ≡ b
-blend-kept mark b e = ap (λ t. cond t b (cond mark 1 0)) e
+-- a byte without its mark is 0
+pub blend-off : (b : ℕ) → blend false b ≡ 0
+blend-off zero = refl
+blend-off (suc b) = rw (ne-eqb (suc b) 0 (omega arith)) refl
 
--- another is written
-pub blend-changed : (mark : Bool) (b : ℕ) → Bool·beq (isSet b) mark ≡ false → blend mark b ≡ cond mark 1 0
-blend-changed mark b e = ap (λ t. cond t b (cond mark 1 0)) e
+-- a byte with its mark is not, and one that is not 0 already stays
+pub blend-on : (b : ℕ) → b ≡ 0 → blend true b ≡ 1
+blend-on b e = ap (blend true) e
+
+pub blend-kept : (b : ℕ) → (b ≡ 0 → ⊥) → blend true b ≡ b
+blend-kept zero e = absurd (e refl)
+blend-kept (suc b) e = rw (ne-eqb (suc b) 0 (omega arith)) refl
 
 -- the byte then says the mark
 blend-says : (mark : Bool) (b : ℕ) → isSet (blend mark b) ≡ mark

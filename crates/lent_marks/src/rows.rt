@@ -1,7 +1,6 @@
 // Bytes as a row of marks, and a row written back.
 ghost use mathlib.Core.Path.{_≡_};
 ghost use Prim.Native.Nat.{_≤_};
-ghost use mathlib.Core.Bool.{cond};
 ghost use lib.ListN.{length};
 ghost use Rattle.rules.specs.Limits.{limits};
 ghost use Rattle.tables.specs.Regions.{leastMarks};
@@ -22,21 +21,18 @@ pub fn read_marks(bytes: &[u8]) -> [bool; MARKS]
     row
 }
 
-// A mark as a byte.
-fn byte_of(mark: bool) -> u8
-    ensures { λ r. ⌜ r ≡ cond mark 1 0 ⌝ }
-{
-    if mark { 1 } else { 0 }
-}
-
-// A byte with a mark written over it: it stays where it says the mark already.
+// A byte with a mark written over it: it stays where it says the mark already. Asked in this order, a
+// row of them takes few steps for many bytes.
 fn with_mark(mark: bool, byte: u8) -> u8
     ensures { λ r. ⌜ r ≡ blend mark byte ⌝ }
 {
-    if (byte != 0) == mark {
+    if mark {
+        if byte == 0 {
+            return 1;
+        }
         return byte;
     }
-    byte_of(mark)
+    0
 }
 
 // A row of marks over the first bytes. Every byte whose mark did not change keeps what it holds; it is
