@@ -4,7 +4,7 @@ use native.Mathlib.Omega.{arith}
 use mathlib.Core.Path.{_≡_, ap, _∙_}
 use mathlib.Core.Bool.{false, cond}
 use mathlib.Core.List.{List}
-use lib.ListN.{length, getD, take, drop, replicate, getD-replicate, length-replicate}
+use lib.ListN.{getD, take, drop, replicate, getD-replicate, length-replicate}
 use borrow.Author.Tests.{ltb-true}
 use Rattle.lists.specs.Lists.{member}
 use Rattle.lists.proofs.Counts.{by-test}

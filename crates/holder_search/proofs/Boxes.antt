@@ -17,13 +17,13 @@ use Rattle.rules.specs.Cycles.{Arrangement}
 use Rattle.rules.specs.Claim.{Joined}
 use Rattle.rules.specs.Holes.{ringNodes}
 use Rattle.rules.proofs.Values.{in-map}
-use Rattle.rules.proofs.HoleBoxes as boxes
-use Rattle.rules.proofs.HoleBoxes.{closed-ends}
 use Rattle.inside.specs.Spots.{spotIn, NodesWithin}
 use Rattle.inside.proofs.Standing.{walk-inside}
 use Rattle.candidates.specs.Candidates.{numberAt, inBox, Bounds, Boxed}
 use Rattle.holding.specs.Holding.{insideBy, holdsBy, Corner}
 use Rattle.views.specs.Views.{slopeOf, Slanted}
+use Rattle.views.proofs.Beside as boxes
+use Rattle.views.proofs.Beside.{closed-ends}
 use Rattle.views.proofs.Slants.{slant, inside-slanted}
 use Rattle.holding.proofs.TestPoints.{corner-decides, none-free}
 

@@ -4,13 +4,13 @@ use native.Mathlib.Omega.{arith}
 use mathlib.Core.Path.{_≡_, sym, ap, subst, _∙_}
 use mathlib.Core.Bool.{Bool, true, _&&_}
 use mathlib.Core.Logic.{⊎-elim}
-use mathlib.Core.List.{List, [], _∷_}
+use mathlib.Core.List.{List}
 use lib.ListN.{length, getD, List·getD-eq-default}
 use lib.Seq.{getD-take}
 use lib.IntN.{ℤ}
 use Rattle.lists.specs.Lists.{In, below}
-use Rattle.lists.proofs.Counts.{by-lt, in-cons}
-use Rattle.lists.proofs.Members.{in-at, below-in}
+use Rattle.lists.proofs.Counts.{by-lt}
+use Rattle.lists.proofs.Members.{in-at, in-index, below-in}
 use Rattle.geometry.specs.Angle.{Point}
 use Rattle.rules.specs.Cycles.{Arrangement}
 use Rattle.rules.specs.Face.{Ring}
@@ -54,11 +54,6 @@ module _ (rs : List Ring) (m : Map) (bound slope : ℕ) (rings : List ℕ) (numb
       let at = spotIn (m .xs) (m .ys) in
       let g = origins (m .source) in
       (λ i. holdsBy at (l .nodes i) (opening .nodes i)) ∙ sym (holds-by at g (ringAt rs (getD rings j 0)) o (l .joined))
-
--- where a member stands
-in-index : (h : ℕ) (l : List ℕ) → In h l → (k : ℕ) × (k < length l) × (getD l k 0 ≡ h)
-in-index h [] m = absurd (omega arith)
-in-index h (x ∷ l) m = ⊎-elim (λ e. (0, omega arith, sym e)) (λ n. let r = in-index h l n in (suc (r .0), omega (arith, r .1), r .2)) (in-cons h x l m)
 
 -- each half-edge of a ring stands in the table of sources
 pub line-within : (ring source : List ℕ) (bound : ℕ) → RingWithin ring source bound → (h : ℕ) → In h ring → LineWithin h source bound

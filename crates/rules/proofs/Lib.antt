@@ -92,4 +92,3 @@ pub mod PairsTaken
 pub mod ListTest
 -- a ring and what lies beside it
 pub mod Crossings
-pub mod HoleBoxes

@@ -1,28 +1,24 @@
 -- A slanted view of the plane: every point moves along its level by the slope times its height. Which lines cross a level to the right of a point stays as it
 -- is, so a ring has nothing inside that lies beside it in the slanted view. There a thin ring along a diagonal has a narrow box.
-use Prim.Native.Nat.{ℕ, _%_}
+use Prim.Native.Nat.{ℕ}
 use native.Mathlib.Omega.{arith}
 use mathlib.Core.Path.{_≡_, sym, ap, ap₂, subst, _∙_}
 use mathlib.Core.Bool.{Bool, true, false, not, _&&_, Bool·beq}
 use mathlib.Core.List.{List}
-use lib.Dec.{eqb}
 use lib.IntN.{ℤ, pos, _+ℤ_, _-ℤ_, _*ℤ_}
-use lib.ListN.{length, getD}
+use lib.ListN.{getD}
 use lib.Signed.{ltZ, leZ}
-use Rattle.lists.specs.Lists.{pick, all, In}
 use Rattle.lists.proofs.Counts.{by-test, true-is-false}
-use Rattle.lists.proofs.Members.{pick-none}
-use Rattle.lists.proofs.Tests.{no-right}
 use Rattle.geometry.specs.Angle.{Point, orientation}
-use Rattle.geometry.proofs.Integers.{lt-ltZ, leZ-true, leZ-false, diff-var, diff-pos, diff-add, diff-sub, diff-mul, diff-eq}
+use Rattle.geometry.proofs.Integers.{diff-var, diff-pos, diff-add, diff-sub, diff-mul, diff-eq}
 use Rattle.rules.specs.HalfEdge.{twin}
 use Rattle.rules.specs.Cycles.{Arrangement}
 use Rattle.rules.specs.Claim.{Joined}
-use Rattle.rules.specs.Holes.{onLine, crossesRight, inside}
+use Rattle.rules.specs.Holes.{crossesRight, inside}
 use Rattle.rules.proofs.Crossings.{left-apart, right-crosses}
-use Rattle.rules.proofs.HoleBoxes.{Ends, Boxed, closed-even, ring-above, ring-below}
 use Rattle.inside.specs.Spots.{spot}
 use Rattle.views.specs.Views.{leaned, Slanted}
+use Rattle.views.proofs.Beside.{closed-even, Ends, crosses, even-out, none-out, ring-above, ring-below, Boxed, before-low, past-high}
 
 -- ---- the view that is not slanted
 
@@ -76,45 +72,23 @@ module _ (k : ℤ) where
   -- ---- beside the ring
 
   module _ (at : ℕ → Point) (g : Arrangement) (ring : List ℕ) (p : Point) where
-    -- the line of a half-edge crosses to the right
-    abbrev crosses : ℕ → Bool
-    crosses h = crossesRight (at (g .origin h)) (at (g .origin (twin h))) p
-
-    -- an even number crosses
-    even-out : eqb (length (pick crosses ring) % 2) 1 ≡ false → inside at g ring p ≡ false
-    unfolding inside
-    even-out e = no-right (all (λ h. not (onLine (at (g .origin h)) (at (g .origin (twin h))) p)) ring) (eqb (length (pick crosses ring) % 2) 1) e
-
     -- the ring is to the left
     slant-left : Ends at g ring (λ q. ltZ (slant q .x) (slant p .x) ≡ true) → inside at g ring p ≡ false
-    slant-left e = even-out (ap (λ l. eqb (length l % 2) 1) (pick-none crosses ring none))
-      where
-        none : (h : ℕ) → In h ring → crosses h ≡ false
-        none h m =
-            let a = at (g .origin h) in
-            let b = at (g .origin (twin h)) in
-            sym (crossing-stays a b p) ∙ left-apart (slant a) (slant b) (slant p) (e h m .0) (e h m .1)
+    slant-left e = none-out at g ring p (λ h m.
+        let a = at (g .origin h) in
+        let b = at (g .origin (twin h)) in
+        sym (crossing-stays a b p) ∙ left-apart (slant a) (slant b) (slant p) (e h m .0) (e h m .1))
 
     -- to the right, if it is closed
     slant-right : Joined g (getD ring 0 0) ring → Ends at g ring (λ q. ltZ (slant p .x) (slant q .x) ≡ true) → inside at g ring p ≡ false
-    slant-right j e = even-out (closed-even g (λ n. leZ (at n .y) (p .y)) crosses ring j by-ends)
-      where
-        by-ends : (h : ℕ) → In h ring → crosses h ≡ not (Bool·beq (leZ (at (g .origin h) .y) (p .y)) (leZ (at (g .origin (twin h)) .y) (p .y)))
-        by-ends h m =
-            let a = at (g .origin h) in
-            let b = at (g .origin (twin h)) in
-            sym (crossing-stays a b p) ∙ right-crosses (slant a) (slant b) (slant p) (e h m .0) (e h m .1)
+    slant-right j e = even-out at g ring p (closed-even g (λ n. leZ (at n .y) (p .y)) (crosses at g ring p) ring j (λ h m.
+        let a = at (g .origin h) in
+        let b = at (g .origin (twin h)) in
+        sym (crossing-stays a b p) ∙ right-crosses (slant a) (slant b) (slant p) (e h m .0) (e h m .1)))
 
     -- ---- the box
 
     module _ (lowX highX lowY highY : ℤ) where
-      -- below a low end, or above a high end
-      before-low : (low x q : ℤ) → leZ low x ≡ false → leZ low q ≡ true → ltZ x q ≡ true
-      before-low low x q n h = lt-ltZ x q (omega (arith, leZ-false low x n, leZ-true low q h))
-
-      past-high : (high x q : ℤ) → leZ x high ≡ false → leZ q high ≡ true → ltZ q x ≡ true
-      past-high high x q n h = lt-ltZ q x (omega (arith, leZ-false x high n, leZ-true q high h))
-
       -- a box in the slanted view holds what is inside a closed ring, if it holds the ends of its lines
       pub inside-slanted : Joined g (getD ring 0 0) ring → Ends at g ring (λ q. Boxed lowX highX lowY highY (slant q)) → inside at g ring p ≡ true → Boxed lowX highX lowY highY (slant p)
       inside-slanted j e i = record {

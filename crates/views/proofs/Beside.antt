@@ -1,6 +1,5 @@
--- A ring has nothing inside that lies beside its box. Where the ring is above, below or to the left of a point, no line of it crosses to the point's right.
--- Where it is to the right, each line crosses whose ends stand on different sides of the point's level, and around a closed ring the side changes an even
--- number of times.
+-- Points beside a ring. Where the ring is above or below a point, no line of it crosses to the point's right. Around a closed ring the side of the point's
+-- level changes an even number of times.
 use Prim.Native.Nat.{ℕ, suc, _%_}
 use native.Mathlib.Omega.{arith}
 use mathlib.Core.Path.{_≡_, refl, sym, ap, ap₂, subst, _∙_}
@@ -13,16 +12,16 @@ use lib.ListN.{length, getD}
 use lib.Signed.{ltZ, leZ}
 use borrow.Author.Tests.{eq-eqb, ne-eqb}
 use Rattle.lists.specs.Lists.{keep, pick, all, In}
-use Rattle.lists.proofs.Counts.{by-test, by-eq, in-cons, in-head, in-tail, true-is-false}
+use Rattle.lists.proofs.Counts.{by-eq, in-cons, in-head, in-tail}
 use Rattle.lists.proofs.Members.{pick-none}
 use Rattle.lists.proofs.Tests.{no-right}
 use Rattle.geometry.specs.Angle.{Point}
 use Rattle.geometry.proofs.Integers.{lt-ltZ, ltZ-true, le-leZ, lt-leZ, leZ-true, leZ-false}
 use Rattle.rules.specs.HalfEdge.{twin}
 use Rattle.rules.specs.Cycles.{Arrangement}
 use Rattle.rules.specs.Claim.{Joined}
 use Rattle.rules.specs.Holes.{onLine, crossesRight, inside}
-use Rattle.rules.proofs.Crossings.{left-apart, right-crosses, level-apart}
+use Rattle.rules.proofs.Crossings.{level-apart}
 
 -- ---- how often a side changes
 
@@ -117,16 +116,16 @@ closed-ends at g (f ∷ hs) fact j starts h m =
 
 module _ (at : ℕ → Point) (g : Arrangement) (ring : List ℕ) (p : Point) where
   -- the line of a half-edge crosses to the right
-  abbrev crosses : ℕ → Bool
+  abbrev pub crosses : ℕ → Bool
   crosses h = crossesRight (at (g .origin h)) (at (g .origin (twin h))) p
 
   -- an even number crosses
-  even-out : odd (pick crosses ring) ≡ false → inside at g ring p ≡ false
+  pub even-out : odd (pick crosses ring) ≡ false → inside at g ring p ≡ false
   unfolding inside
   even-out e = no-right (all (λ h. not (onLine (at (g .origin h)) (at (g .origin (twin h))) p)) ring) (odd (pick crosses ring)) e
 
   -- none crosses
-  none-out : ((h : ℕ) → In h ring → crosses h ≡ false) → inside at g ring p ≡ false
+  pub none-out : ((h : ℕ) → In h ring → crosses h ≡ false) → inside at g ring p ≡ false
   none-out n = even-out (ap odd (pick-none crosses ring n))
 
   -- the ring is on one side of the point's level
@@ -147,15 +146,6 @@ module _ (at : ℕ → Point) (g : Arrangement) (ring : List ℕ) (p : Point) wh
       down : (q : Point) → ltZ (q .y) (p .y) ≡ true → leZ (q .y) (p .y) ≡ true
       down q l = le-leZ (q .y) (p .y) (omega (arith, ltZ-true (q .y) (p .y) l))
 
-  -- to its left
-  pub ring-left : Ends at g ring (λ q. ltZ (q .x) (p .x) ≡ true) → inside at g ring p ≡ false
-  ring-left e = none-out (λ h m. left-apart (at (g .origin h)) (at (g .origin (twin h))) p (e h m .0) (e h m .1))
-
-  -- to its right, if it is closed
-  pub ring-right : Joined g (getD ring 0 0) ring → Ends at g ring (λ q. ltZ (p .x) (q .x) ≡ true) → inside at g ring p ≡ false
-  ring-right j e =
-      even-out (closed-even g (λ n. leZ (at n .y) (p .y)) crosses ring j (λ h m. right-crosses (at (g .origin h)) (at (g .origin (twin h))) p (e h m .0) (e h m .1)))
-
 -- ---- the box
 
 -- a point lies in a box
@@ -166,24 +156,8 @@ pub record Boxed (lowX highX lowY highY : ℤ) (q : Point) : Type 0 where
   pub high : leZ (q .y) highY ≡ true
 
 -- x is below a low end, or above a high end
-before-low : (low x q : ℤ) → leZ low x ≡ false → leZ low q ≡ true → ltZ x q ≡ true
+pub before-low : (low x q : ℤ) → leZ low x ≡ false → leZ low q ≡ true → ltZ x q ≡ true
 before-low low x q n h = lt-ltZ x q (omega (arith, leZ-false low x n, leZ-true low q h))
 
-past-high : (high x q : ℤ) → leZ x high ≡ false → leZ q high ≡ true → ltZ q x ≡ true
+pub past-high : (high x q : ℤ) → leZ x high ≡ false → leZ q high ≡ true → ltZ q x ≡ true
 past-high high x q n h = lt-ltZ q x (omega (arith, leZ-false x high n, leZ-true q high h))
-
-module _ (at : ℕ → Point) (g : Arrangement) (ring : List ℕ) (p : Point) (lowX highX lowY highY : ℤ) where
-  -- the box holds what is inside a closed ring, if it holds the ends of its lines
-  pub inside-box : Joined g (getD ring 0 0) ring → Ends at g ring (Boxed lowX highX lowY highY) → inside at g ring p ≡ true → Boxed lowX highX lowY highY p
-  inside-box j e i = record {
-    left = held (leZ lowX (p .x)) (λ n. ring-right at g ring p j (ends (λ q. ltZ (p .x) (q .x) ≡ true) (λ q b. before-low lowX (p .x) (q .x) n (b .left))));
-    right = held (leZ (p .x) highX) (λ n. ring-left at g ring p (ends (λ q. ltZ (q .x) (p .x) ≡ true) (λ q b. past-high highX (p .x) (q .x) n (b .right))));
-    low = held (leZ lowY (p .y)) (λ n. ring-above at g ring p (ends (λ q. ltZ (p .y) (q .y) ≡ true) (λ q b. before-low lowY (p .y) (q .y) n (b .low))));
-    high = held (leZ (p .y) highY) (λ n. ring-below at g ring p (ends (λ q. ltZ (q .y) (p .y) ≡ true) (λ q b. past-high highY (p .y) (q .y) n (b .high))));
-  }
-    where
-      ends : (fact : Point → Type 0) → ((q : Point) → Boxed lowX highX lowY highY q → fact q) → Ends at g ring fact
-      ends fact k h m = (k (at (g .origin h)) (e h m .0), k (at (g .origin (twin h))) (e h m .1))
-
-      held : (t : Bool) → (t ≡ false → inside at g ring p ≡ false) → t ≡ true
-      held t f = by-test t (λ u. u) (λ n. absurd (true-is-false (sym i ∙ f n)))
