@@ -194,6 +194,26 @@ fn crossings() {
     }
 }
 
+/// A ring with more half-edges than there are nodes, which passes two of them twice and one not at all, holds
+/// the ring through that one.
+#[test]
+fn long_but_not_everywhere() {
+    let nodes = [[4, 0], [3, 4], [5, 4], [4, 5], [1, 6], [1, 3]];
+    let lines = [
+        (0, 4),
+        (0, 5),
+        (1, 2),
+        (1, 4),
+        (2, 4),
+        (2, 5),
+        (3, 4),
+        (3, 5),
+        (4, 5),
+    ];
+    let map: Vec<Segment> = lines.iter().map(|&(a, b)| [nodes[a], nodes[b]]).collect();
+    assert_eq!(held(&of_map(&map)), 1);
+}
+
 /// Every family of a tracing, in another order and turned.
 #[test]
 fn in_any_order() {
