@@ -129,20 +129,13 @@ module _ {rs : List Ring} {nodes : List ℕ} {xs ys : List ℤ} {first size side
       pub listed-writable : Writable nodes xs ys first size area all i n rings numbers
       listed-writable = let r = given .each i low in record {
         stands = record {
-          inFirst = omega (arith, given .inFirst);
-          inSize = omega (arith, given .inSize);
-          within = r .within;
+          part = record { inFirst = omega (arith, given .inFirst); inSize = omega (arith, given .inSize); within = r .within };
           some = r .some;
           inXs = r .inXs;
           inYs = r .inYs;
         };
-        numbered = record {
-          inFirst = omega (arith, given .inFirst);
-          inSize = omega (arith, given .inSize);
-          within = r .within;
-          low = given .low i low;
-          few = given .fewNodes;
-        };
+        low = given .low i low;
+        fewNodes = given .fewNodes;
         inArea = omega (arith, given .inArea);
         halved = (ringAt rs i .doubled, r .halved);
         inRings = omega (arith, room, given .inRings);

@@ -30,9 +30,9 @@ abbrev pub numbersBy : List ℤ → List ℤ → Sides → ℤ → List ℤ
 numbersBy xs ys s doubled =
     getD xs (s .left) (pos 0) ∷ getD xs (s .right) (pos 0) ∷ getD ys (s .low) (pos 0) ∷ getD ys (s .high) (pos 0) ∷ doubled ∷ []
 
--- to the right of every point
-abbrev pub nowhere : ℤ
-nowhere = pos 9223372036854775807
+-- above every number of a candidate
+abbrev pub beyond : ℤ
+beyond = pos 9223372036854775807
 
 -- not beside the box of candidate j
 abbrev pub inBox : List ℤ → ℕ → ℤ → ℤ → Bool
@@ -59,27 +59,24 @@ pub record Boxed (xs ys : List ℤ) (all : ℕ) (numbers : List ℤ) (j : ℕ) (
 abbrev pub nodesAt : List ℕ → List ℕ → List ℕ → ℕ → List ℕ
 nodesAt nodes first size i = take (getD size i 0) (drop (getD first i 0) nodes)
 
--- ring i has nodes in the list, and each stands in both tables
-pub record Standing (nodes : List ℕ) (xs ys : List ℤ) (first size : List ℕ) (i : ℕ) : Type 0 where
+-- a part of the list is ring i's
+pub record Part (nodes first size : List ℕ) (i : ℕ) : Type 0 where
   pub inFirst : i < length first
   pub inSize : i < length size
   pub within : getD first i 0 + getD size i 0 ≤ length nodes
+
+-- it has nodes, and each stands in both tables
+pub record Standing (nodes : List ℕ) (xs ys : List ℤ) (first size : List ℕ) (i : ℕ) : Type 0 where
+  pub part : Part nodes first size i
   pub some : 0 < getD size i 0
   pub inXs : NodesWithin (nodesAt nodes first size i) (length xs)
   pub inYs : NodesWithin (nodesAt nodes first size i) (length ys)
 
--- ring i has nodes in the list, of which there are so many, and no more than a graph may have
-pub record Numbered (all : ℕ) (nodes first size : List ℕ) (i : ℕ) : Type 0 where
-  pub inFirst : i < length first
-  pub inSize : i < length size
-  pub within : getD first i 0 + getD size i 0 ≤ length nodes
-  pub low : NodesWithin (nodesAt nodes first size i) all
-  pub few : all ≤ limits .nodes
-
--- what writing ring i as candidate n asks: the ring stands in the lists with its area, and there is room
+-- what writing ring i as candidate n asks: the ring stands in the lists with its area, its nodes are among all, and there is room
 pub record Writable (nodes : List ℕ) (xs ys : List ℤ) (first size : List ℕ) (area : List Float) (all i n : ℕ) (rings : List ℕ) (numbers : List ℤ) : Type 0 where
   pub stands : Standing nodes xs ys first size i
-  pub numbered : Numbered all nodes first size i
+  pub low : NodesWithin (nodesAt nodes first size i) all
+  pub fewNodes : all ≤ limits .nodes
   pub inArea : i < length area
   pub halved : (z : ℤ) × HalfOf (getD area i nan) z
   pub inRings : n < length rings

@@ -4,7 +4,7 @@ ghost use Prim.Native.Nat.{_+_, _*_, _≤_};
 ghost use lib.ListN.{length, set};
 ghost use lib.Seq.{sets};
 ghost use Rattle.corners.specs.Boxes.{SidesWithin};
-ghost use Rattle.candidates.specs.Candidates.{numbersOf, numberAt, numbersBy, nowhere, inBox};
+ghost use Rattle.candidates.specs.Candidates.{numbersOf, numberAt, numbersBy, beyond, inBox};
 use corners::Sides;
 use tables::MAX_SHAPED;
 use tables::wide;
@@ -26,8 +26,8 @@ pub const NUMBERS: usize = 5;
 // A candidate is a ring with an area.
 pub const CANDIDATE_NUMBERS: usize = NUMBERS * MAX_SHAPED;
 
-// To the right of every point.
-const NOWHERE: i64 = 9223372036854775807;
+// Above every number of a candidate.
+pub const BEYOND: i64 = 9223372036854775807;
 
 // Writes the numbers of candidate j.
 pub fn put_numbers(
@@ -56,9 +56,9 @@ pub fn put_numbers(
 // Shuts the box of candidate j: it begins to the right of every point.
 pub fn shut_box(numbers: &mut [i64], j: usize)
     requires { ⌜ numbersOf * j + numbersOf ≤ length (now numbers) ⌝ }
-    ensures { λ _. ⌜ now (numbers .exit) ≡ set (now (numbers .entry)) (numbersOf * j + 0) nowhere ⌝ }
+    ensures { λ _. ⌜ now (numbers .exit) ≡ set (now (numbers .entry)) (numbersOf * j + 0) beyond ⌝ }
 {
-    numbers[NUMBERS * j + LOW_X] = NOWHERE;
+    numbers[NUMBERS * j + LOW_X] = BEYOND;
 }
 
 // Whether the point is not beside the box of candidate j. What lies beside it is not inside the ring.

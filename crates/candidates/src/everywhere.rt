@@ -3,7 +3,9 @@ ghost use mathlib.Core.Path.{_≡_};
 ghost use mathlib.Core.Bool.{true};
 ghost use Prim.Native.Nat.{ℕ, _<_, _≤_};
 ghost use lib.ListN.{length, getD};
-ghost use Rattle.candidates.specs.Candidates.{nodesAt, PassesAll, Numbered};
+ghost use Rattle.rules.specs.Limits.{limits};
+ghost use Rattle.inside.specs.Spots.{NodesWithin};
+ghost use Rattle.candidates.specs.Candidates.{nodesAt, PassesAll, Part};
 use corners::stamp_nodes;
 use tables::MAX_NODES;
 use tables::wide;
@@ -34,7 +36,8 @@ pub fn passes_all(
     ring_first: &[u16],
     ring_length: &[u16],
 ) -> bool
-    requires { ⌜ Numbered «node_count» (now nodes) (now «ring_first») (now «ring_length») i ⌝ }
+    requires { ⌜ Part (now nodes) (now «ring_first») (now «ring_length») i ⌝ }
+    requires { ⌜ NodesWithin (nodesAt (now nodes) (now «ring_first») (now «ring_length») i) «node_count» × («node_count» ≤ limits .nodes) ⌝ }
     ensures { λ r. ⌜ (r ≡ true → PassesAll «node_count» (nodesAt (now (nodes .entry)) (now («ring_first» .entry)) (now («ring_length» .entry)) i)) ⌝ }
 {
     let k = wide(i);

@@ -12,6 +12,7 @@ use crate::boxes::put_numbers;
 use crate::boxes::shut_box;
 use crate::everywhere::passes_all;
 pub use boxes::AREA;
+pub use boxes::BEYOND;
 pub use boxes::CANDIDATE_NUMBERS;
 pub use boxes::HIGH_X;
 pub use boxes::LOW_X;

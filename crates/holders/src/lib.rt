@@ -45,44 +45,8 @@ fn write_nodes(half_edges: &[u16], dir_edges_src: &[u16], nodes: &mut [u16])
     }
 }
 
-// Lists the enclosed rings in ring order, with their boxes in a slanted view, and answers how many
-// there are.
-fn list_slanted(
-    slope: u8,
-    node_count: usize,
-    ring_count: u16,
-    nodes: &[u16],
-    xs: &[i64],
-    ys: &[i64],
-    ring_first: &[u16],
-    ring_length: &[u16],
-    ring_side: &[u8],
-    ring_area: &[f64],
-    rings: &mut [u16],
-    numbers: &mut [i64],
-) -> usize
-    requires { ⌜ ((rs : List Ring) × Boxable rs «node_count» (now nodes) (now xs) (now ys) (now «ring_first») (now «ring_length») (now «ring_side») (now «ring_area») «ring_count» (now rings) (now numbers)) ⌝ }
-    ensures { λ r. ⌜ ((rs : List Ring) → Boxable rs «node_count» (now (nodes .entry)) (now (xs .entry)) (now (ys .entry)) (now («ring_first» .entry)) (now («ring_length» .entry)) (now («ring_side» .entry)) (now («ring_area» .entry)) «ring_count» (now (rings .entry)) (now (numbers .entry))
-        → ((along : List ℤ) × Slanted slope (now (xs .entry)) (now (ys .entry)) «node_count» along × Candidates rs (now (nodes .entry)) along (now (ys .entry)) (now («ring_first» .entry)) (now («ring_length» .entry)) «node_count» «ring_count» (now (rings .exit)) (now (numbers .exit)) r)) ⌝ }
-{
-    let mut along = [0i64; MAX_NODES];
-    write_along(slope, xs, ys, node_count, &mut along);
-    list_enclosed(
-        ring_count,
-        node_count,
-        nodes,
-        &along,
-        ys,
-        ring_first,
-        ring_length,
-        ring_side,
-        ring_area,
-        rings,
-        numbers,
-    )
-}
-
-// The same in any view. As the map is, where a point lies to the right is its x.
+// Lists the enclosed rings in ring order, with their boxes in a view, and answers how many there are.
+// As the map is, where a point lies to the right is its x, and no table has to be made for it.
 fn list_boxed(
     slope: u8,
     node_count: usize,
@@ -116,12 +80,13 @@ fn list_boxed(
             numbers,
         );
     }
-    list_slanted(
-        slope,
-        node_count,
+    let mut along = [0i64; MAX_NODES];
+    write_along(slope, xs, ys, node_count, &mut along);
+    list_enclosed(
         ring_count,
+        node_count,
         nodes,
-        xs,
+        &along,
         ys,
         ring_first,
         ring_length,

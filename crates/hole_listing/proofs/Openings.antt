@@ -30,9 +30,7 @@ module _ (rs : List Ring) (m : Map) (bound slope : ℕ) (rings : List ℕ) (numb
       let l = field .map .each i low in
       let h = field .map in
       record {
-        inFirst = omega (arith, low, h .inFirst);
-        inSize = omega (arith, low, h .inSize);
-        within = l .inNodes;
+        part = record { inFirst = omega (arith, low, h .inFirst); inSize = omega (arith, low, h .inSize); within = l .inNodes };
         some = l .some;
         inXs = λ n k. omega (arith, part-within n k, h .spotted .inXs);
         inYs = λ n k. omega (arith, part-within n k, h .spotted .inYs);

@@ -8,19 +8,17 @@ ghost use Rattle.candidate_order.specs.Order.{InOrder};
 ghost use Rattle.passing.specs.Passing.{LeastAreas, Within, Reaches, Passable, EndsBefore, restLarger};
 use candidate_order::number_at;
 use candidates::AREA;
+use candidates::BEYOND;
 use candidates::HIGH_X;
 use candidates::doubled_of;
 use tables::wide;
-
-// Above every doubled area.
-const NO_AREA: i64 = 9223372036854775807;
 
 // The least doubled area from the beginning to each place.
 fn write_least(numbers: &[i64], order: &[u16], count: usize, least: &mut [i64])
     requires { ⌜ InOrder (now numbers) count (now order) × (count ≤ length (now least)) ⌝ }
     ensures { λ _. ⌜ LeastAreas (now (numbers .entry)) (now (order .entry)) count (now (least .exit)) ⌝ }
 {
-    let mut lowest = NO_AREA;
+    let mut lowest = BEYOND;
     let mut k = 0;
     while k < count {
         let mine = number_at(numbers, order, count, k, AREA);

@@ -11,7 +11,7 @@ use mir.Val.{toZ, ofZ}
 use mir.ValLaws.{toZ-ofZ}
 use Rattle.ring_lists.specs.Shown.{HalfOf}
 use Rattle.corners.proofs.Boxing.{sides-within}
-use Rattle.candidates.specs.Candidates.{nodesAt, nowhere, Written}
+use Rattle.candidates.specs.Candidates.{nodesAt, beyond, Written}
 use Rattle.candidates.proofs.Listing.{written, written-shut}
 use Rattle.candidates.proofs.put_candidate.Statement.{statement}
 use Rattle.candidates.proofs.put_candidate.Tie as tie
@@ -77,7 +77,7 @@ slice-write-rings : tie.Need-slice-write-rings
 slice-write-rings c = let s = entry c in omega (arith, s .pre .inRings)
 
 passes-all-requires : tie.Need-passes-all-requires
-passes-all-requires c κs = entry c .pre .numbered
+passes-all-requires c κs = let p = entry c .pre in (p .stands .part, (p .low, p .fewNodes))
 
 shut-box-requires : tie.Need-shut-box-requires
 shut-box-requires c κs = let e = c .before .before .before in omega (arith, entry e .pre .inNumbers, made e .long)
@@ -94,7 +94,7 @@ returns c =
     let a = entry e .args in
     let l = set (a .rings .now) (a .n) (a .i) in
     subst (Written (a .nodes .now) (a .xs .now) (a .ys .now) (a .ring-first .now) (a .ring-length .now) (a .ring-area .now) (a .node-count) (a .i) (a .n) (a .rings .now) l (a .numbers .now)) (sym (c .before .shut-box .ensures))
-    (written-shut (a .xs .now) (a .ys .now) (a .nodes .now) (a .ring-first .now) (a .ring-length .now) (a .ring-area .now) (a .node-count) (a .i) (a .n) (a .rings .now) l (a .numbers .now) (put e) nowhere
+    (written-shut (a .xs .now) (a .ys .now) (a .nodes .now) (a .ring-first .now) (a .ring-length .now) (a .ring-area .now) (a .node-count) (a .i) (a .n) (a .rings .now) l (a .numbers .now) (put e) beyond
     (c .before .before .before .before .passes-all .ensures (c .before .before .before .if1 .taken)) (made e))
 
 same-length-3 : tie.Need-same-length-3

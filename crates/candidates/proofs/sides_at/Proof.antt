@@ -51,10 +51,10 @@ lent c =
     part-is (a .nodes .now) (a .ring-first .now) (a .ring-length .now) (a .i) (c .before .before .wide2 .result) (c .wide3 .result) (r .0) (r .1)
 
 add-end : tie.Need-add-end
-add-end c = let r = read c in omega (arith, r .0, r .1, entry c .pre .within)
+add-end c = let r = read c in omega (arith, r .0, r .1, entry c .pre .part .within)
 
 mul-sides-of : tie.Need-mul-sides-of
-mul-sides-of c = let r = read c in omega (arith, r .0, r .1, entry c .pre .within)
+mul-sides-of c = let r = read c in omega (arith, r .0, r .1, entry c .pre .part .within)
 
 sub-sides-of : tie.Need-sub-sides-of
 sub-sides-of c = search needs
@@ -63,7 +63,7 @@ part-sides-of-start : tie.Need-part-sides-of-start
 part-sides-of-start c = search needs
 
 part-sides-of-end : tie.Need-part-sides-of-end
-part-sides-of-end c = let r = read c in omega (arith, r .0, r .1, entry c .pre .within)
+part-sides-of-end c = let r = read c in omega (arith, r .0, r .1, entry c .pre .part .within)
 
 sides-of-requires : tie.Need-sides-of-requires
 sides-of-requires c κs =
@@ -72,7 +72,7 @@ sides-of-requires c κs =
     let l = s .args .nodes .now in
     let r = read w in
     let v = w .before .before .wide2 .result in (
-      omega (arith, r .0, r .1, s .pre .within, s .pre .some, length-take (v + w .wide3 .result - v) (drop v l), length-drop v l),
+      omega (arith, r .0, r .1, s .pre .part .within, s .pre .some, length-take (v + w .wide3 .result - v) (drop v l), length-drop v l),
       subst (λ f. NodesWithin f (length (s .args .xs .now))) (sym (lent w)) (s .pre .inXs),
       subst (λ f. NodesWithin f (length (s .args .ys .now))) (sym (lent w)) (s .pre .inYs),
     )

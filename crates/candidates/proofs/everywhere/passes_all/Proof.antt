@@ -56,10 +56,10 @@ lent c =
     part-is (a .nodes .now) (a .ring-first .now) (a .ring-length .now) (a .i) (c .wide3 .result) (c .before .before .before .wide2 .result) (r .0) (r .1)
 
 add-end : tie.Need-add-end
-add-end c = let r = read c in omega (arith, r .0, r .1, entry c .pre .within)
+add-end c = let r = read c in omega (arith, r .0, r .1, entry c .pre .0 .within)
 
 mul-stamp-nodes : tie.Need-mul-stamp-nodes
-mul-stamp-nodes c = let r = read c in omega (arith, r .0, r .1, entry c .pre .within)
+mul-stamp-nodes c = let r = read c in omega (arith, r .0, r .1, entry c .pre .0 .within)
 
 sub-stamp-nodes : tie.Need-sub-stamp-nodes
 sub-stamp-nodes c = search needs
@@ -68,7 +68,7 @@ part-stamp-nodes-start : tie.Need-part-stamp-nodes-start
 part-stamp-nodes-start c = search needs
 
 part-stamp-nodes-end : tie.Need-part-stamp-nodes-end
-part-stamp-nodes-end c = let r = read c in omega (arith, r .0, r .1, entry c .pre .within)
+part-stamp-nodes-end c = let r = read c in omega (arith, r .0, r .1, entry c .pre .0 .within)
 
 slice-aggregate-stamp-nodes : tie.Need-slice-aggregate-stamp-nodes
 slice-aggregate-stamp-nodes c = search needs
@@ -77,7 +77,7 @@ stamp-nodes-requires : tie.Need-stamp-nodes-requires
 stamp-nodes-requires c κs =
     let w = c .before .before in
     let p = entry w .pre in
-    subst (λ f. NodesWithin f (limits .nodes)) (sym (lent w)) (λ n m. omega (arith, p .low n m, p .few))
+    subst (λ f. NodesWithin f (limits .nodes)) (sym (lent w)) (λ n m. omega (arith, p .1 .0 n m, p .1 .1))
 
 slice-aggregate-all-stamped : tie.Need-slice-aggregate-all-stamped
 slice-aggregate-all-stamped c = search needs
@@ -85,7 +85,7 @@ slice-aggregate-all-stamped c = search needs
 all-stamped-requires : tie.Need-all-stamped-requires
 all-stamped-requires c κs =
     let t = c .before .before in
-    omega (arith, entry (t .before .before .before) .pre .few, t .stamp-nodes .kept .1 .1 .0)
+    omega (arith, entry (t .before .before .before) .pre .1 .1, t .stamp-nodes .kept .1 .1 .0)
 
 returns-2 : tie.Need-returns-2
 returns-2 c =
@@ -93,7 +93,7 @@ returns-2 c =
     let s = entry w in
     let stamp = c .before .before .before .stamp-nodes in
     let after = stamp .last .1 .1 .0 in
-    λ e. stamped-all (nodesAt (s .args .nodes .now) (s .args .ring-first .now) (s .args .ring-length .now) (s .args .i)) (limits .nodes) (s .args .node-count) after (s .pre .few)
+    λ e. stamped-all (nodesAt (s .args .nodes .now) (s .args .ring-first .now) (s .args .ring-length .now) (s .args .i)) (limits .nodes) (s .args .node-count) after (s .pre .1 .1)
     (subst (λ f. Stamped f 1 (replicate (limits .nodes) 0) after) (lent w) (stamp .ensures)) (c .all-stamped .ensures e)
 
 pub passes-all-spec : {M : Type 1} → statement M
