@@ -35,10 +35,8 @@ fn main() {
 }
 
 fn say_how_to_build(missing: &[String]) {
-    let commands = ARCHIVES.map(|name| format!("`rt staticlib {name}`"));
     println!(
-        "cargo::error=target/staticlib has no {}: run {} in the root of the repository first",
-        missing.join(", "),
-        commands.join(", ")
+        "cargo::error=target/staticlib has no {}: run `tools/archives` in the root of the repository first",
+        missing.join(", ")
     );
 }

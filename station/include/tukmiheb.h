@@ -1,5 +1,5 @@
 /*
- * The tissue map graph for C: the entries of the seven archives that `rt staticlib` makes,
+ * The tissue map graph for C: the entries of the seven archives that tools/archives makes,
  *
  *     cc -I station/include program.c -L target/staticlib \
  *         -lstation_building -lstation_files -lstation_ring_files -lstation_steps -lstation_cuts \

@@ -5,13 +5,7 @@
 //! the library's seven archives first, in the root of the repository:
 //!
 //! ```text
-//! rt staticlib station_building
-//! rt staticlib station_files
-//! rt staticlib station_ring_files
-//! rt staticlib station_steps
-//! rt staticlib station_cuts
-//! rt staticlib station_rings
-//! rt staticlib station_questions
+//! tools/archives
 //! ```
 //!
 //! A segment file becomes a map in one call, or says which record is refused and why:

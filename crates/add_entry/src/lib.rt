@@ -1,4 +1,6 @@
 // Adding a line to a graph that is being built.
+#![tactic(auto)]
+
 ghost use Rattle.rules.specs.Limits.{limits};
 ghost use Rattle.tables.specs.Regions.{state_in};
 ghost use Rattle.adding.specs.Outcomes.{reply_of};

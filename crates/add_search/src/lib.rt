@@ -1,5 +1,7 @@
 // What an addition looks for before it decides: the nodes of both ends, the edge between them, and the place
 // of its line id.
+#![tactic(auto)]
+
 ghost use Rattle.rules.specs.Limits.{limits};
 ghost use Rattle.tables.specs.Regions.{state_in};
 ghost use Rattle.std.specs.Prelude.{Bool, List, ℕ, Float};

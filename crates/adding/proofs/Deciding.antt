@@ -1,14 +1,11 @@
--- The ends of a line and what an addition comes to, from the tests that the code makes.
-use Prim.Native.Nat.{ℕ, suc, ◌+◌, ◌*◌, ◌/◌, ◌<◌, ◌≤◌, min}
-use native.Mathlib.Numerals.{add-one}
+-- What an addition comes to, from the tests that the code makes.
+use Prim.Native.Nat.{ℕ, ◌*◌, ◌/◌, ◌<◌, ◌≤◌, min}
 use native.Mathlib.Omega.{arith}
-use mathlib.Core.Path.{◌≡◌, refl, sym, ap, ap₂, ◌∙◌}
-use mathlib.Core.Bool.{Bool, true, false, cond, ◌&&◌}
-use lib.Dec.{eqb, ltb}
+use mathlib.Core.Path.{◌≡◌, refl, sym, ap, ◌∙◌}
+use mathlib.Core.Bool.{Bool, true, false}
+use lib.Dec.{ltb}
 use Rattle.geometry.specs.declared.Line3D.{Line3D}
 use Rattle.rules.specs.Keys.{key_of}
-use Rattle.tables.specs.declared.ids.NodeId.{NodeId}
-use Rattle.adding.specs.declared.Ends.{Ends}
 use borrow.Author.Tests.{ltb-true, lt-ltb, le-ltb}
 use Rattle.geometry.specs.Angle.{planar}
 use Rattle.lists.proofs.Counts.{by_test, by_lt}
@@ -19,19 +16,6 @@ use Rattle.tables.specs.declared.Refusal.TheVariants.{NotWhole, SameNode}
 use Rattle.adding.specs.declared.Decision.{Decision}
 use Rattle.adding.specs.declared.Decision.TheVariants.{Refuse}
 use Rattle.adding.specs.Decisions.{id_decision, room_decision, decision_by, ends_by}
-
-module _ (nodes : ℕ) (u w : NodeId) where
-  -- both are new: the end comes after the start
-  pub ends-new : eqb u.0 nodes ≡ true → eqb w.0 nodes ≡ true
-      → ◌≡◌ {A = Ends} (record { start = u; end = record { 0 = nodes + 1 }; new_start = eqb u.0 nodes; new_end = eqb w.0 nodes }) (ends_by nodes u.0 w.0)
-  ends-new a b =
-      (λ i. record { start = u; end = record { 0 = add-one nodes i }; new_start = eqb u.0 nodes; new_end = eqb w.0 nodes })
-      ∙ (λ i. record { start = u; end = record { 0 = sym (ap₂ (λ p q. cond (p && q) (suc nodes) w.0) a b) i }; new_start = eqb u.0 nodes; new_end = eqb w.0 nodes })
-
-  -- else the end is as found
-  pub ends-old : (eqb u.0 nodes && eqb w.0 nodes) ≡ false
-      → ◌≡◌ {A = Ends} (record { start = u; end = w; new_start = eqb u.0 nodes; new_end = eqb w.0 nodes }) (ends_by nodes u.0 w.0)
-  ends-old e = λ i. record { start = u; end = record { 0 = sym (ap (λ p. cond p (suc nodes) w.0) e) i }; new_start = eqb u.0 nodes; new_end = eqb w.0 nodes }
 
 module _ (l : Limits) (g : Line3D) (nodes edges u w h : ℕ) (known : Bool) (free : ℕ) where
   -- what the addition comes to

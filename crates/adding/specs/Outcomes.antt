@@ -5,7 +5,6 @@ use Rattle.rules.specs.Adding as rules
 use Rattle.rules.specs.Limits.{Limits}
 use Rattle.rules.specs.State.{State, roomy, sound}
 use Rattle.tables.specs.Refusals.{refusal_number_lem}
-use Rattle.adding.specs.declared.Added.{Added}
 use Rattle.adding.specs.declared.AddReply.{AddReply}
 use Rattle.adding.specs.declared.AddReply.TheVariants.{New, Old, Refused}
 

@@ -1,5 +1,7 @@
 // Adding a line: what the addition comes to, from what was found for its ends, before anything is
 // written. Carried over from `add_node` and `add_line` of planar_graph.rs.
+#![tactic(auto)]
+
 ghost use Rattle.std.specs.Prelude.{◌≡◌, cond, ◌+◌, ◌≤◌};
 ghost use Rattle.rotation.specs.Rotation.{key_same};
 ghost use Rattle.rules.specs.Keys.{key_of};
@@ -11,7 +13,7 @@ use geometry::{Coord3D, Line3D};
 use tables::{DirEdgeId, EdgeId, NodeId, PlanarGraph, Refusal, wide};
 
 // What an addition answers: a new edge, the edge that joined the two nodes before, or a refusal.
-#[derive(Drop)]
+#[derive(Clone, Copy)]
 pub enum AddReply {
     New(EdgeId),
     Old(EdgeId),
@@ -26,7 +28,7 @@ pub struct Added {
 }
 
 // The nodes of a line's ends, and whether they have yet to be made.
-#[derive(Drop)]
+#[derive(Clone, Copy)]
 pub struct Ends {
     pub start: NodeId,
     pub end: NodeId,

@@ -1,10 +1,14 @@
 // An input that is read through a buffer: what a read brings, what is kept of it for the next one, and
 // bytes that are passed over without being held.
+#![tactic(auto)]
+
 ghost use Rattle.std.specs.Prelude.{◌≡◌, ◌+◌, ◌-◌, ◌<◌, ◌≤◌, min, length};
 ghost use Rattle.buffered_input.specs.Reads.{is_open_lem, is_failed_lem, Brings, Dropped, Fronted};
 
+use std::io::Read;
+
 // Whether the input may have more: the last read brought some bytes, it met the end, or it failed.
-#[derive(Drop)]
+#[derive(Clone, Copy)]
 pub enum Source {
     Open,
     Ended,
@@ -41,27 +45,23 @@ pub fn is_failed(source: Source) -> bool
 }
 
 // One read, to the front of `room`. An empty room would make it look like the end.
-pub fn read_some(input: i32, room: &mut [u8]) -> Brought
+pub fn read_some<R: Read>(input: &mut R, room: &mut [u8]) -> Brought
     requires { 0 < length room.old }
     ensures { Brings (length room.old) result }
 {
-    let answer = libc::read(input, room);
-    if answer < 0 {
-        return Brought {
+    match input.read(room) {
+        Err(_) => Brought {
             got: 0,
             source: Source::Failed,
-        };
-    }
-    let got = io::count(answer, room);
-    if got == 0 {
-        return Brought {
+        },
+        Ok(0) => Brought {
             got: 0,
             source: Source::Ended,
-        };
-    }
-    Brought {
-        got,
-        source: Source::Open,
+        },
+        Ok(got) => Brought {
+            got,
+            source: Source::Open,
+        },
     }
 }
 
@@ -73,7 +73,7 @@ fn least(a: usize, b: usize) -> usize
 
 // Reads so many bytes and holds none of them: each read writes over the last. Answers how many came;
 // they are fewer where the input ended or a read failed.
-pub fn drop_bytes(input: i32, buffer: &mut [u8], missing: usize) -> Brought
+pub fn drop_bytes<R: Read>(input: &mut R, buffer: &mut [u8], missing: usize) -> Brought
     requires { 0 < length buffer.old }
     ensures { Dropped missing result }
 {

@@ -1,4 +1,6 @@
 // The listing of a segment file that is held in memory.
+#![tactic(auto)]
+
 ghost use Rattle.std.specs.Prelude.{◌≡◌};
 ghost use Rattle.byte_listing.specs.Clause.{listed_reply, ListsBytes};
 

@@ -1,7 +1,11 @@
 // Setting an entry of a state table to a number that the call list gives. Each function but the last
 // answers whether the place and the number are the table's.
+#![tactic(auto)]
+
 use call_list::Number;
 use call_replies::say;
+use std::io;
+use std::io::Write;
 use tables::{
     DEGREES, FLOATS, HALF_MARKS, IDS, LINKS, LIST_PLACES, MARKS, MAX_EDGES, MAX_HALF_EDGES,
     MAX_NODES, MAX_PAIRS, NODES_Y, NODES_Z, NUMBERS, PAIR_IDS, SEGMENTS, STARS, TARGETS,
@@ -123,7 +127,8 @@ fn of_segments() -> Region {
 
 // The tables in the order of the rules' state. Where the place or the number is none of the table's, the
 // line is no call.
-pub fn put_entry(
+pub fn put_entry<W: Write>(
+    out: &mut W,
     table: usize,
     place: usize,
     number: Number,
@@ -132,7 +137,7 @@ pub fn put_entry(
     stars: &mut [u16; STARS],
     marks: &mut [bool; MARKS],
     ids: &mut [u32; IDS],
-) {
+) -> io::Result<()> {
     let is_put = match table {
         0 => put_float(floats, of_nodes(0), place, number),
         1 => put_float(floats, of_nodes(NODES_Y), place, number),
@@ -150,7 +155,8 @@ pub fn put_entry(
         13 => put_number(numbers, of_pairs(LINKS), place, number),
         _ => false,
     };
-    if !is_put {
-        say(b"unknown\n");
+    if is_put {
+        return Ok(());
     }
+    say(out, b"unknown\n")
 }

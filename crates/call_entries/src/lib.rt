@@ -1,5 +1,7 @@
 // One call of a public entry, and its reply in one form for all of them. The extraction of rings, which is
 // lent the most lists, is in call_rings.
+#![tactic(auto)]
+
 use adding::AddReply;
 use call_lending::{
     Settings, first_numbers, lend_floats, lend_ids, lend_marks, lend_numbers, lend_stars,

@@ -1,5 +1,7 @@
 // Everything that a call is lent, as one row of numbers: what stood there before the call and what
 // stands there after it are compared entry by entry.
+#![tactic(auto)]
+
 mod image;
 mod stays;
 

@@ -1,4 +1,6 @@
 // Lending: a slice whole or one entry short, a list as long as it is set to be.
+#![tactic(auto)]
+
 ghost use Rattle.std.specs.Prelude.{◌≤◌};
 
 use call_image::lesser;
@@ -6,7 +8,7 @@ use tables::PlanarGraph;
 
 // What the call list sets: the small state, the slice that the next call gets one entry short, how
 // long the lists are lent, and how many records the hole list has.
-#[derive(Drop)]
+#[derive(Clone, Copy)]
 pub struct Settings {
     pub graph: PlanarGraph,
     pub short: usize,

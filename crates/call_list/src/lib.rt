@@ -1,5 +1,7 @@
 // Call lists: text with one call of the graph's entries a line. Every text can be read; a line that
 // is no call is `Unknown`.
+#![tactic(auto)]
+
 mod lines;
 mod numbers;
 mod scanning;
@@ -10,7 +12,7 @@ pub use lines::read_call;
 pub use numbers::{Count, Number, Real, count_of, real_of};
 
 // A call of one of the graph's public entries but the extraction of rings, which is lent other lists.
-#[derive(Drop)]
+#[derive(Clone, Copy)]
 pub enum GraphCall {
     Create,
     Add(Line3D),
@@ -22,7 +24,7 @@ pub enum GraphCall {
 
 // What a line says. `State` has the counts of nodes and edges and the stage; `Set` the number of a
 // table, the place in it, and what is put there.
-#[derive(Drop)]
+#[derive(Clone, Copy)]
 pub enum Call {
     Blank,
     Comment,

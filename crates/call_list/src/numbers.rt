@@ -4,7 +4,7 @@ ghost use Rattle.std.specs.Prelude.{◌≡◌, ℕ, ◌<◌, ◌≤◌, length};
 ghost use Rattle.call_list.specs.Digits.{digit_of, Written};
 
 // A decimal keeps its sign apart, so that `-0` can be told from `0`.
-#[derive(Drop)]
+#[derive(Clone, Copy)]
 pub enum Number {
     Whole(bool, u64),
     Bits(u64),
@@ -12,13 +12,13 @@ pub enum Number {
 }
 
 // A number as a count or as a float; `clear` says whether it is one.
-#[derive(Drop)]
+#[derive(Clone, Copy)]
 pub struct Count {
     pub clear: bool,
     pub value: u64,
 }
 
-#[derive(Drop)]
+#[derive(Clone, Copy)]
 pub struct Real {
     pub clear: bool,
     pub value: f64,

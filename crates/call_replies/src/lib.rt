@@ -1,4 +1,6 @@
 // What a run of a call list prints: the reply of each call in one form for all of them, and the state.
+#![tactic(auto)]
+
 use cycles::Census;
 use tables::{EdgeId, PlanarGraph};
 
@@ -15,7 +17,7 @@ pub use replies::{end_line, say_reply, say_rings};
 pub use show::show_state;
 
 // The reply of a call.
-#[derive(Drop)]
+#[derive(Clone, Copy)]
 pub enum Reply {
     Created,
     New(EdgeId),

@@ -1,8 +1,9 @@
-// Text, numbers and floats on standard output.
+// Text, numbers and floats, to any writer.
 ghost use Rattle.std.specs.Prelude.{◌≡◌, to_bits};
 ghost use Rattle.std.specs.Float.{binary64};
 
-use libc::STDOUT_FILENO;
+use std::io;
+use std::io::Write;
 
 // The longest signed number: a minus sign and 19 digits.
 const LONGEST: usize = 20;
@@ -14,30 +15,30 @@ enum Whole {
     Not,
 }
 
-pub fn say(text: &[u8]) {
-    io::write_all(STDOUT_FILENO, text);
+pub fn say<W: Write>(out: &mut W, text: &[u8]) -> io::Result<()> {
+    out.write_all(text)
 }
 
-pub fn say_number(n: u64) {
-    io::print_decimal(STDOUT_FILENO, n);
+pub fn say_number<W: Write>(out: &mut W, n: u64) -> io::Result<()> {
+    write!(out, "{n}")
 }
 
 // A number with a minus sign where it is negative.
-pub fn say_signed(n: i64) {
+pub fn say_signed<W: Write>(out: &mut W, n: i64) -> io::Result<()> {
     let mut text = [0u8; LONGEST];
     let end = number_text::put_signed(&mut text, 0, n);
-    say(&text[..end]);
+    say(out, &text[..end])
 }
 
 // A text and then a number.
-pub fn say_labelled(text: &[u8], n: u64) {
-    say(text);
-    say_number(n);
+pub fn say_labelled<W: Write>(out: &mut W, text: &[u8], n: u64) -> io::Result<()> {
+    say(out, text)?;
+    say_number(out, n)
 }
 
 // A space and then a number.
-pub fn say_spaced(n: u64) {
-    say_labelled(b" ", n);
+pub fn say_spaced<W: Write>(out: &mut W, n: u64) -> io::Result<()> {
+    say_labelled(out, b" ", n)
 }
 
 // The bits of a float; one pattern for every NaN, since the language leaves a NaN's bits open.
@@ -63,32 +64,28 @@ fn whole_of(size: f64) -> Whole {
     Whole::Not
 }
 
-fn say_size(size: f64, bits: u64) {
+fn say_size<W: Write>(out: &mut W, size: f64, bits: u64) -> io::Result<()> {
     match whole_of(size) {
         Whole::Is(n) => {
             if 0x8000_0000_0000_0000 <= bits {
-                say(b"-");
+                say(out, b"-")?;
             }
-            say_number(n);
+            say_number(out, n)
         }
-        Whole::Not => {
-            say(b"x");
-            io::print_hex(STDOUT_FILENO, bits, 16);
-        }
+        Whole::Not => write!(out, "x{bits:016x}"),
     }
 }
 
 // A space and a float: a whole number with its sign, -0.0 too; any other float by its bits.
-pub fn say_float(x: f64) {
-    say(b" ");
+pub fn say_float<W: Write>(out: &mut W, x: f64) -> io::Result<()> {
+    say(out, b" ")?;
     if x != x {
-        say(b"nan");
-        return;
+        return say(out, b"nan");
     }
     let bits = float_bits(x);
     if 0x8000_0000_0000_0000 <= bits {
-        say_size(-x, bits);
+        say_size(out, -x, bits)
     } else {
-        say_size(x, bits);
+        say_size(out, x, bits)
     }
 }

@@ -1,6 +1,5 @@
-// One call of the extraction of rings, on slices and lists that may be lent short. A slice of records is
-// lent by no rule of the prover, so the entry's core is called: it does all but write the holes, which
-// it hands over.
+// One call of the extraction of rings, on slices and lists that may be lent short. The entry's core is
+// called: it does all but write the holes, which it hands over.
 use call_lending::{
     Settings, first_floats, first_numbers, first_sides, share_floats, share_ids, share_marks,
     share_numbers, share_stars,

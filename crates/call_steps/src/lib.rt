@@ -1,10 +1,14 @@
 // One line of the call list: what it changes in the settings.
+#![tactic(auto)]
+
 use call_checking::perform;
 use call_damage::put_entry;
 use call_lending::{NO_SLICE, Settings, slice_of};
 use call_list::Call;
 use call_replies::{say, show_state};
 use call_rings::perform_rings;
+use std::io;
+use std::io::Write;
 use tables::{FLOATS, IDS, MARKS, MAX_HALF_EDGES, NUMBERS, PlanarGraph, STARS};
 
 // A short slice is for one call only.
@@ -18,7 +22,8 @@ fn with_graph(settings: Settings, graph: PlanarGraph, short: usize) -> Settings 
 }
 
 // A line that calls nothing: what it changes in the settings.
-fn prepare(
+fn prepare<W: Write>(
+    out: &mut W,
     call: Call,
     settings: Settings,
     floats: &mut [f64; FLOATS],
@@ -26,17 +31,17 @@ fn prepare(
     stars: &mut [u16; STARS],
     marks: &mut [bool; MARKS],
     ids: &mut [u32; IDS],
-) -> Settings {
+) -> io::Result<Settings> {
     let graph = settings.graph;
     match call {
-        Call::Show => show_state(graph, floats, numbers, stars, marks, ids),
+        Call::Show => show_state(out, graph, floats, numbers, stars, marks, ids)?,
         Call::Set(table, place, number) => put_entry(
-            table, place, number, floats, numbers, stars, marks, ids,
-        ),
-        Call::Unknown => say(b"unknown\n"),
+            out, table, place, number, floats, numbers, stars, marks, ids,
+        )?,
+        Call::Unknown => say(out, b"unknown\n")?,
         _ => {}
     }
-    set_by(call, settings)
+    Ok(set_by(call, settings))
 }
 
 // The settings after a line that calls nothing.
@@ -70,7 +75,8 @@ fn set_by(call: Call, settings: Settings) -> Settings {
 }
 
 // A line of either kind.
-pub fn step(
+pub fn step<W: Write>(
+    out: &mut W,
     call: Call,
     settings: Settings,
     floats: &mut [f64; FLOATS],
@@ -84,10 +90,11 @@ pub fn step(
     ring_face: &mut [u16; MAX_HALF_EDGES],
     ring_side: &mut [u8; MAX_HALF_EDGES],
     ring_area: &mut [f64; MAX_HALF_EDGES],
-) -> Settings {
+) -> io::Result<Settings> {
     match call {
         Call::Graph(entry) => {
             let new = perform(
+                out,
                 entry,
                 settings,
                 floats,
@@ -101,11 +108,12 @@ pub fn step(
                 ring_face,
                 ring_side,
                 ring_area,
-            );
-            with_graph(settings, new, NO_SLICE)
+            )?;
+            Ok(with_graph(settings, new, NO_SLICE))
         }
         Call::Rings => {
             let new = perform_rings(
+                out,
                 settings,
                 floats,
                 numbers,
@@ -118,9 +126,9 @@ pub fn step(
                 ring_face,
                 ring_side,
                 ring_area,
-            );
-            with_graph(settings, new, NO_SLICE)
+            )?;
+            Ok(with_graph(settings, new, NO_SLICE))
         }
-        _ => prepare(call, settings, floats, numbers, stars, marks, ids),
+        _ => prepare(out, call, settings, floats, numbers, stars, marks, ids),
     }
 }

@@ -1,5 +1,7 @@
 // What calls on a graph have in common: the tests that each begins with, over the five lent slices,
 // and the answer of those that reply success alone.
+#![tactic(auto)]
+
 mod checks;
 mod room;
 

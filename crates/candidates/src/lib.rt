@@ -1,5 +1,7 @@
 // Candidates: the enclosed rings, which may hold an open one, with their boxes and doubled areas
 // (document 02, §2).
+#![tactic(auto)]
+
 ghost use Rattle.std.specs.Prelude.{List};
 ghost use Rattle.rules.specs.Face.{Ring};
 ghost use Rattle.corners.specs.Boxes.{Outermost};

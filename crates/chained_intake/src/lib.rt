@@ -1,4 +1,6 @@
 // All records of some bytes taken into a graph that is chained, one after another.
+#![tactic(auto)]
+
 ghost use Rattle.std.specs.Prelude.{◌≡◌};
 ghost use Rattle.adding.specs.Outcomes.{Ready};
 ghost use Rattle.line_ids.specs.Free.{FreeAt};

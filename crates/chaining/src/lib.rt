@@ -1,5 +1,7 @@
 // The nodes and half-edges of a graph, chained: all of them at first, and then what an addition brought; and
 // what a line comes to in such a graph.
+#![tactic(auto)]
+
 ghost use Rattle.std.specs.Prelude.{◌≡◌, ◌+◌, ◌*◌, ◌≤◌, length, replicate};
 ghost use Rattle.rules.specs.Limits.{limits};
 ghost use Rattle.tables.specs.Regions.{xs_in, ys_in, sources_in, targets_in, star_table_in};

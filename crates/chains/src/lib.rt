@@ -1,5 +1,7 @@
 // Items that have codes, chained by code in one table: the items of one code are found without a
 // look at the others.
+#![tactic(auto)]
+
 ghost use Rattle.std.specs.Prelude.{◌≡◌, ◌+◌, ◌<◌, length};
 ghost use Rattle.chains.specs.Chains.{entered};
 

@@ -1,4 +1,6 @@
 // Cutting: stage 2 to 3.
+#![tactic(auto)]
+
 ghost use Rattle.rules.specs.Limits.{limits};
 ghost use Rattle.tables.specs.Regions.{state_in};
 ghost use Rattle.cut_entry.specs.Replies.{cut_reply};

@@ -1,4 +1,6 @@
 // Cut edges, and Euler's census of the cycles of an arrangement. Carried over from planar_graph.rs.
+#![tactic(auto)]
+
 mod cuts;
 mod euler;
 
@@ -13,7 +15,7 @@ use tables::{MAX_HALF_EDGES, PlanarGraph};
 
 // What cutting and ring extraction count: V, E, the maximal rings, C, and whether Euler's formula
 // holds of them.
-#[derive(Drop)]
+#[derive(Clone, Copy)]
 pub struct Census {
     pub vertices: u16,
     pub edges: u16,

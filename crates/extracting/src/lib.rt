@@ -1,5 +1,7 @@
 // Ring extraction over grouped stars: the rings are listed with their keys, sides and areas, then
 // their face numbers are written. Carried over from planar_graph.rs.
+#![tactic(auto)]
+
 mod naming;
 mod sides;
 
@@ -14,7 +16,7 @@ use tables::PlanarGraph;
 
 // What ring extraction answers: the graph in its last stage, how many rings there are, the census
 // taken before splitting, and how many comparisons naming the rings took.
-#[derive(Drop)]
+#[derive(Clone, Copy)]
 pub struct Extracted {
     pub graph: PlanarGraph,
     pub count: u16,

@@ -1,5 +1,7 @@
 // Adding all records of a segment file that is held in memory. The state is tested once for the whole
 // file, and not once for each segment, as a call of `add_line` for each would.
+#![tactic(auto)]
+
 ghost use Rattle.rules.specs.Limits.{limits};
 ghost use Rattle.tables.specs.Regions.{state_in};
 ghost use Rattle.file_entry.specs.Clause.{AddsRecords};

@@ -1,6 +1,8 @@
 // Files of records: which record the bytes at a place begin with, told by its length and its kind. Every
 // reader of a file stands on this. A record is its length (4 bytes, which count what follows them),
 // its kind (2) and what the kind says, each number with its lowest byte first.
+#![tactic(auto)]
+
 ghost use Rattle.std.specs.Prelude.{◌≡◌, ◌+◌, ◌≤◌, ◌<◌, length, drop};
 ghost use Rattle.file_rules.specs.Records.{field, whole_frame_lem, frame};
 ghost use Rattle.frames.specs.Frames.{number_of, frame_of, Skips};

@@ -1,7 +1,7 @@
 -- Exact arithmetic on floats that hold whole numbers. `Whole x z` (specs/Coordinate.antt) says that the float x is the integer z; both zeros are 0.
 -- The sum, the difference and the product of two such floats are whole again where the integer result is at most 2 ^ 53 in size; the comparisons are those of the integers at any size.
 use Rattle.std.proofs.Common.{◌≡◌, ℕ, zero, suc, ◌+◌, ◌-◌, ◌*◌, ◌/◌, ◌%◌, ◌^◌, ◌<◌, ◌≤◌, min, Bool, true, false, cond, not, ◌&&◌, ◌||◌, T, eqb, ltb, leb, ◌⊎◌, List, [], ◌∷◌, ℤ, pos, negsuc, ◌+ℤ◌, ◌-ℤ◌, ◌*ℤ◌, neg_ℤ, nat_abs, sym, refl, ap, ◌∙◌, subst, inl, inr, le_refl, le_of_lt, lt_irrefl, mul-le-mul_right, zero-lt-suc, mul_assoc, mul_comm, add-mul, eq-or-lt_of_le, mul-lt-mul_of_pos_right, mul-pos, mul-zero, ne_of_gt, div-add-mod', zero-add, zero-mul, mul-one, mul_right_comm, mul-div_cancel, arith, le→leb, eqb→eq, leb→le, ltb-false, ltb-true, le-ltb, lt-ltb, eq-eqb, ne_eqb, eqb-true, leb-false, leb-true}
-use mathlib.Core.Bool.{beq, and-true, and-false, and_self, or_true}
+use mathlib.Core.Bool.{beq, and-true, and-false, and_self, or-true}
 use native.Mathlib.Nat.{mul-sub, mul-mul-mul_comm, eq_of_mul-eq-mul_right, mul-mod_left}
 use lib.Dec.{leb-suc-suc, eqb-suc-suc, eqb-zero-suc, eqb-suc-zero}
 use lib.IntN.{neg_ℤ-+ℤ, neg_ℤ-neg_ℤ, +ℤ_comm}
@@ -144,7 +144,7 @@ pub ltb_or_eqb : (a b : ℕ) → (ltb a b || eqb a b) ≡ leb a b
 ltb_or_eqb a b = go (leb a b) refl
   where
     go : (t : Bool) → leb a b ≡ t → (ltb a b || eqb a b) ≡ t
-    go true e = elim (eq-or-lt_of_le (leb-true a b e)) [ inl q ↦ ap (λ (t : Bool). ltb a b || t) (eq-eqb a b q) ∙ or_true (ltb a b) | inr l ↦ ap (λ (t : Bool). t || eqb a b) (lt-ltb a b l) ]
+    go true e = elim (eq-or-lt_of_le (leb-true a b e)) [ inl q ↦ ap (λ (t : Bool). ltb a b || t) (eq-eqb a b q) ∙ or-true (ltb a b) | inr l ↦ ap (λ (t : Bool). t || eqb a b) (lt-ltb a b l) ]
     go false e = λ i. le-ltb a b (le_of_lt (leb-false a b e)) i || ne_eqb a b (ne_of_gt (leb-false a b e)) i
 
 pub level_int : (s : Bool) (a : ℕ) (t : Bool) (b : ℕ) → level s a t b ≡ eq_z (signed s a) (signed t b)

@@ -1,5 +1,7 @@
 // The search for an open ring's holder among the candidates: of those that hold it the one with the
 // smallest doubled area, then the lower face number.
+#![tactic(auto)]
+
 ghost use Rattle.std.specs.Prelude.{◌≡◌, List, ℕ, ◌+◌, ◌*◌, ◌<◌, ◌≤◌, ℤ, length, get_or};
 ghost use Rattle.rules.specs.Face.{Ring};
 ghost use Rattle.candidates.specs.Candidates.{numbers_of};

@@ -58,7 +58,7 @@ holes_are s = refl
 
 -- ---- a sound state whose tables are long enough
 
-module _ (s : State) (in_x : limits.nodes ≤ length s.node_x) (in_y : limits.nodes ≤ length s.node_y) (in_source : 2 * limits.edges ≤ length s.source) (sense : sound limits s ≡ true) where
+module _ (s : State) (in_x : limits.nodes ≤ length s.node_x) (in_y : limits.nodes ≤ length s.node_y) (long_source : 2 * limits.edges ≤ length s.source) (sense : sound limits s ≡ true) where
   -- its rings
   abbrev rings : List (List ℕ)
   rings = minimal_rings (arrangement s)
@@ -83,7 +83,7 @@ module _ (s : State) (in_x : limits.nodes ≤ length s.node_x) (in_y : limits.no
 
   -- its half-edges stand in the table of sources
   in_source : (h : ℕ) → h < 2 * s.edges → h < length s.source
-  in_source h l = omega (arith, ok.edges, in_source)
+  in_source h l = omega (arith, ok.edges, long_source)
 
   -- with their twins, and start at nodes
   line_of : (h : ℕ) → h < 2 * s.edges → LineWithin h s.source s.nodes

@@ -1,4 +1,6 @@
 // Holes: for each open ring the enclosed ring that holds it, all in whole numbers (document 02, §2).
+#![tactic(auto)]
+
 mod finding;
 
 ghost use Rattle.std.specs.Prelude.{◌≡◌, List, map, ℕ, ◌<◌, ◌≤◌, ℤ, length, get_or, take};

@@ -1,4 +1,6 @@
 // Whether a ring holds an open one: it has the open one's test point strictly inside.
+#![tactic(auto)]
+
 ghost use Rattle.std.specs.Prelude.{◌≡◌, ℕ};
 ghost use Rattle.inside.specs.Spots.{spot_in};
 ghost use Rattle.holding.specs.Holding.{holds_by_lem, Testable, Corner, Restamped};

@@ -1,5 +1,7 @@
 // The tests that ring extraction with the hole list begins with: numbers 6, 7, 5, 8 and 13. Nothing is
 // written.
+#![tactic(auto)]
+
 mod room;
 
 ghost use Rattle.rules.specs.Limits.{limits};

@@ -1,5 +1,7 @@
-// Ring extraction with the hole list: stage 3 to 4. A lent slice of records is covered by no rule of
-// the prover, so the entry, which is proved by hand, only calls the core and has the records written.
+// Ring extraction with the hole list: stage 3 to 4. The core lists the rings and finds their holes, and
+// the entry has the records written.
+#![tactic(auto)]
+
 mod making;
 
 ghost use Rattle.rules.specs.Limits.{limits};

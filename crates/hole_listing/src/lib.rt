@@ -1,4 +1,6 @@
 // The holes: a record for each open ring, in ring order.
+#![tactic(auto)]
+
 ghost use Rattle.std.specs.Prelude.{◌≡◌, List, map, ℕ, ◌<◌, ◌≤◌, length, take};
 ghost use Rattle.rules.specs.Limits.{limits, shaped_rings};
 ghost use Rattle.rules.specs.Face.{Ring};

@@ -1,4 +1,6 @@
 // The lent list of holes, a slice of records.
+#![tactic(auto)]
+
 ghost use Rattle.std.specs.Prelude.{◌≡◌, ◌≤◌, length};
 ghost use Rattle.rules.specs.Limits.{limits, shaped_rings};
 ghost use Rattle.holes.specs.Filled.{filled};
@@ -8,7 +10,7 @@ use tables::MAX_SHAPED;
 // A hole: an open ring, the enclosed ring that holds it, 65,535 for none, and the open ring's
 // doubled area.
 #[repr(C)]
-#[derive(Drop)]
+#[derive(Clone, Copy)]
 pub struct Hole {
     pub ring: u16,
     pub holder: u16,

@@ -1,5 +1,7 @@
 // Adding to a graph whose nodes and half-edges are kept chained. The places that line ids use are marked
 // once, and the lowest free one only moves on.
+#![tactic(auto)]
+
 ghost use Rattle.std.specs.Prelude.{◌≡◌};
 ghost use Rattle.rules.specs.Limits.{limits};
 ghost use Rattle.rules.specs.Adding.{add};

@@ -2,6 +2,8 @@
 // whoever calls, once; each addition leaves it as the next one needs it. The graph is chained and the
 // places that line ids use are marked here, once for all the records, so that an addition looks at few
 // nodes, half-edges and places.
+#![tactic(auto)]
+
 ghost use Rattle.std.specs.Prelude.{◌≡◌};
 ghost use Rattle.adding.specs.Outcomes.{Ready};
 ghost use Rattle.rules.specs.Limits.{limits};

@@ -1,4 +1,6 @@
 // Leaves, the nodes of degree 1: stacking them, and taking one away with its edge.
+#![tactic(auto)]
+
 ghost use Rattle.std.specs.Prelude.{◌≡◌, reverse, ℕ, ◌+◌, ◌≤◌, ◌<◌, length};
 ghost use Rattle.lists.specs.Lists.{In, below};
 ghost use Rattle.rules.specs.HalfEdge.{twin};

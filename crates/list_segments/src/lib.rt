@@ -1,10 +1,13 @@
-// The listing of a segment file: read from a descriptor to its end, printed to another.
+// The listing of a segment file: read from an input to its end, printed to an output.
+#![tactic(auto)]
+
 ghost use Rattle.std.specs.Prelude.{◌≤◌, length};
 ghost use Rattle.rules.specs.Limits.{limits};
 ghost use Rattle.ring_lines.specs.Rooms.{listing_room};
 ghost use Rattle.list_segments.specs.Printing.{Prints, Ends};
 
 use listing_steps::LISTING_ROOM;
+use std::io::{Read, Write};
 use tables::{FLOATS, IDS, MARKS, NUMBERS, STARS};
 use written_output::{complain, write_front};
 
@@ -17,7 +20,7 @@ enum Printed {
 
 // Reads the input and writes its text to the front of `out`. A read that failed is no end of the
 // input: then nothing is written.
-fn put_input(input: i32, out: &mut [u8]) -> Printed
+fn put_input<R: Read>(input: &mut R, out: &mut [u8]) -> Printed
     requires { listing_room limits ≤ length out.old }
     ensures text { Prints result out.old out.new }
     ensures size { Ends result out.new }
@@ -56,11 +59,11 @@ fn put_input(input: i32, out: &mut [u8]) -> Printed
     Printed::Text(size)
 }
 
-// Lists the segments that can be read from `input` on `output`.
-pub fn list(input: i32, output: i32) {
+// Lists the segments that can be read from `input` on `output`; what failed is said on `errors`.
+pub fn list<R: Read, W: Write, E: Write>(input: &mut R, output: &mut W, errors: &mut E) {
     let mut text = [0u8; LISTING_ROOM];
     match put_input(input, &mut text) {
-        Printed::Text(size) => write_front(output, &text, size),
-        Printed::Failed => complain(b"read error\n"),
+        Printed::Text(size) => write_front(output, errors, &text, size),
+        Printed::Failed => complain(errors, b"read error\n"),
     }
 }

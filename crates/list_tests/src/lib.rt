@@ -1,5 +1,7 @@
 // Number 7 of the lists: each starts with its edge's line id, rises strictly and ends, and no two share
 // a place. One pass over all of them, with a table of the places passed.
+#![tactic(auto)]
+
 ghost use Rattle.std.specs.Prelude.{◌≡◌, ◌<◌, ◌≤◌, length, get_or, ltb};
 ghost use Rattle.rules.specs.Limits.{limits};
 ghost use Rattle.rules.specs.LineIds.{sound_lists};

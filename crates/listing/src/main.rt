@@ -1,6 +1,6 @@
 // Lists the segment file on standard input.
-use libc::{STDIN_FILENO, STDOUT_FILENO};
+#![tactic(auto)]
 
-fn main() {
-    list_segments::list(STDIN_FILENO, STDOUT_FILENO);
+fn main(rt: HostRuntime) {
+    list_segments::list(&mut rt.stdin(), &mut rt.stdout(), &mut rt.stderr());
 }

@@ -1,4 +1,6 @@
 // The listing of a graph that was built: the four steps, one after another, and then the text.
+#![tactic(auto)]
+
 ghost use Rattle.rules.specs.Limits.{limits};
 ghost use Rattle.rules.specs.Listing.{cut_text, listing};
 ghost use Rattle.tables.specs.Regions.{state_in};

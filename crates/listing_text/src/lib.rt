@@ -1,5 +1,7 @@
 // The lines of the listing, written into a lent buffer. Each function answers the place after what it
 // wrote; every other byte of the buffer keeps its contents.
+#![tactic(auto)]
+
 ghost use Rattle.std.specs.Prelude.{◌≡◌, ◌+◌, ◌<◌, ◌≤◌, length, get_or};
 ghost use Rattle.file_rules.specs.Lines.{spaced, ring_nodes, head_line, ring_line, refusal_line};
 ghost use Rattle.listing_text.specs.Rooms.{head_room, ring_room_lem, refusal_room};

@@ -1,5 +1,7 @@
 // A record that is longer than the buffer: it is passed over without being held. And what a turn of reading
 // leaves, and whether another follows.
+#![tactic(auto)]
+
 ghost use Rattle.std.specs.Prelude.{◌≡◌, ◌+◌, ◌≤◌, true, length, take};
 ghost use Rattle.rules.specs.State.{State};
 ghost use Rattle.taking.specs.Answers.{reply_of};
@@ -7,6 +9,7 @@ ghost use Rattle.long_records.specs.Turns.{goes_on_lem, capped, is_long_lem, lon
 
 use buffered_input::Source;
 use frames::{FileRefusal, Frame, LENGTH_BYTES, file_number};
+use std::io::Read;
 use tables::PlanarGraph;
 use taking::TakeReply;
 
@@ -102,7 +105,7 @@ fn passed_count(reply: TakeReply) -> usize
 }
 
 // A record that cannot fit: the rest of it is dropped as it comes.
-pub fn skip_turn(graph: PlanarGraph, input: i32, buffer: &mut [u8], kept: usize) -> Turn
+pub fn skip_turn<R: Read>(graph: PlanarGraph, input: &mut R, buffer: &mut [u8], kept: usize) -> Turn
     requires { Kept kept buffer.old × (is_long_lem (take kept buffer.old) ≡ true) }
     ensures { (result.graph ≡ graph) × ((s : State) → Turned (take kept buffer.old) buffer.new s result s) }
 {

@@ -1,5 +1,7 @@
 // Nodes found by key and half-edges by their ends without a look at the others: both are chained by a
 // code in tables of one's own. The Rust asks a hash map for a node and walks a star for an edge.
+#![tactic(auto)]
+
 mod codes;
 mod halves;
 mod nodes;

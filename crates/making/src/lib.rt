@@ -1,4 +1,6 @@
 // An addition once its searches are made: what it comes to, then all that it brings is written.
+#![tactic(auto)]
+
 ghost use Rattle.std.specs.Prelude.{◌≡◌, ◌<◌};
 ghost use Rattle.rules.specs.Adding.{with_node, with_edge, add};
 ghost use Rattle.rules.specs.Limits.{limits};
@@ -15,7 +17,7 @@ use writing::{add_edge, add_node, enter_id};
 
 // What the searches found for a line: the nodes of its ends, each the node count where there is none,
 // and the half-edge between them, the number of half-edges where there is none.
-#[derive(Drop)]
+#[derive(Clone, Copy)]
 pub struct Matches {
     pub start: NodeId,
     pub end: NodeId,

@@ -46,10 +46,11 @@ module _ (p : ℕ → ℕ → Bool) (never : (x : ℕ) → p x x ≡ false) wher
       ))
       (λ d. let m' = in_other h x l d m in
       let ih : (y : ℕ) → In y (x ∷ l) → (p h (before x h l) ≡ false) × ((p (before x h l) y ≡ false) ⊎ (p y h ≡ false)) = λ y z. before_near x h y l r.1 m' z in
+      let p' : before x h l ≡ previous h (x ∷ l) = rw (ne_eqb x h d) in
       rw (ne_eqb x h d) (
         (ih h m).0,
         ⊎_elim
-            (λ q. inl (ap (p (before x h l)) q ∙ r.0 (before x h l) (rw (ne_eqb x h d) at (previous_in h (x ∷ l) m))))
+            (λ q. inl (ap (p (before x h l)) q ∙ r.0 (before x h l) (in_path (x ∷ l) p' (previous_in h (x ∷ l) m))))
             (λ q. (ih k q).1)
             (in_cons k f (x ∷ l) n),
       ))
@@ -58,7 +59,9 @@ module _ (p : ℕ → ℕ → Bool) (never : (x : ℕ) → p x x ≡ false) wher
   last_late : (x k : ℕ) (l : List ℕ) → Ordered p (x ∷ l) → In k (x ∷ l) → p (last_of x l) k ≡ false
   last_late x k [] r n = ap (p x) (⊎_elim (λ q. q) (λ q. absurd (omega arith)) (in_cons k x [] n)) ∙ never x
   last_late x k (y ∷ l) r n = ⊎_elim
-      (λ q. ap (p (last_of y l)) q ∙ r.0 (last_of y l) (rw (eq-eqb y y refl) at (previous_in y (y ∷ l) (in_head y y l refl))))
+      (λ q.
+      let p' : last_of y l ≡ previous y (y ∷ l) = rw (eq-eqb y y refl) in
+      ap (p (last_of y l)) q ∙ r.0 (last_of y l) (in_path (y ∷ l) p' (previous_in y (y ∷ l) (in_head y y l refl))))
       (λ q. last_late y k l r.1 q)
       (in_cons k x (y ∷ l) n)
 
@@ -99,7 +102,9 @@ previous_alone h k (x ∷ l) d m n e = by_eq x h
   where
     only : (x : ℕ) (l : List ℕ) → Distinct (x ∷ l) → last_of x l ≡ x → In k (x ∷ l) → k ≡ x
     only x [] d e n = ⊎_elim (λ q. q) (λ q. absurd (omega arith)) (in_cons k x [] n)
-    only x (y ∷ l) d e n = absurd (distinct-out x (y ∷ l) d (in_path (y ∷ l) (sym e) (rw (eq-eqb y y refl) at (previous_in y (y ∷ l) (in_head y y l refl)))))
+    only x (y ∷ l) d e n =
+        let p' : last_of y l ≡ previous y (y ∷ l) = rw (eq-eqb y y refl) in
+        absurd (distinct-out x (y ∷ l) d (in_path (y ∷ l) (sym e ∙ p') (previous_in y (y ∷ l) (in_head y y l refl))))
 
 -- ---- the law
 

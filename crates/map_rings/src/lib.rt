@@ -1,5 +1,7 @@
 // The rings of a map whose cut edges are marked, with no hole list. Extraction refuses no such map; the arm
 // that `match` wants for a refusal is proved never to be taken.
+#![tactic(auto)]
+
 ghost use Rattle.rules.specs.Limits.{limits};
 ghost use Rattle.tables.specs.Regions.{state_in};
 ghost use Rattle.extracting.specs.Extraction.{lists_of};

@@ -1,6 +1,8 @@
 // From a graph that was built to one whose cut edges are marked: sorting, pruning and cutting. No step
 // refuses a graph that is sound and in the stage before it. Its answer has a case for a refusal all the
 // same, and `match` wants an arm for it: that arm is proved never to be taken.
+#![tactic(auto)]
+
 ghost use Rattle.std.specs.Prelude.{◌≡◌};
 ghost use Rattle.rules.specs.Limits.{limits};
 ghost use Rattle.rules.specs.Stages.{sorted_state};

@@ -1,5 +1,7 @@
 // Numbers in decimal and texts, written into a lent buffer. Each function answers the place after what
 // it wrote; every other byte of the buffer keeps its contents.
+#![tactic(auto)]
+
 ghost use Rattle.std.specs.Prelude.{◌≡◌, ◌+◌, ◌<◌, ◌≤◌, nat_abs, length};
 ghost use Rattle.file_rules.specs.Decimal.{digit, decimal, signed_decimal};
 ghost use Rattle.file_rules.specs.Lines.{labelled};

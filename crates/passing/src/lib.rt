@@ -1,5 +1,7 @@
 // What lets a search from right to left pass candidates by, many at once: of those to the left of a
 // place the least doubled area, and how far back from a place none reaches further to the right.
+#![tactic(auto)]
+
 ghost use Rattle.std.specs.Prelude.{◌≡◌, ◌*◌, ◌<◌, ◌≤◌, length};
 ghost use Rattle.candidates.specs.Candidates.{numbers_of};
 ghost use Rattle.candidate_order.specs.Order.{InOrder};

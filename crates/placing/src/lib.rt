@@ -1,5 +1,7 @@
 // Where a line's id goes: the marks of the places in use and the search in an edge's list, on the lent
 // slices, and the lowest free place after an addition.
+#![tactic(auto)]
+
 ghost use Rattle.std.specs.Prelude.{◌≡◌, true, ◌&&◌, cond, ◌+◌, ◌*◌, ◌≤◌, ltb, length};
 ghost use Rattle.lists.specs.Lists.{member};
 ghost use Rattle.rules.specs.HalfEdge.{edge_of};

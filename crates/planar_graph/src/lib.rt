@@ -1,6 +1,8 @@
 // The public entries of the graph, each proved in a crate of its own. Each takes all inputs, damaged
 // tables included, and ends; it refuses by document 01's numbers, and a refusal changes nothing lent
 // to it.
+#![tactic(auto)]
+
 pub use add_entry::add_line;
 pub use adding::{AddReply, Added};
 pub use calls::{StepReply, Stepped};

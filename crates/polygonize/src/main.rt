@@ -1,6 +1,6 @@
 // Writes the ring file of the segment file on standard input.
-use libc::{STDIN_FILENO, STDOUT_FILENO};
+#![tactic(auto)]
 
-fn main() {
-    ring_output::polygonize(STDIN_FILENO, STDOUT_FILENO);
+fn main(rt: HostRuntime) {
+    ring_output::polygonize(&mut rt.stdin(), &mut rt.stdout(), &mut rt.stderr());
 }

@@ -1,4 +1,6 @@
 // Pruning dangles: stage 1 to 2.
+#![tactic(auto)]
+
 ghost use Rattle.rules.specs.Limits.{limits};
 ghost use Rattle.tables.specs.Regions.{state_in};
 ghost use Rattle.prune_entry.specs.Replies.{prune_reply};

@@ -1,4 +1,6 @@
 // Pruning: dangling edges are taken away, from a stack of nodes of degree 1.
+#![tactic(auto)]
+
 ghost use Rattle.std.specs.Prelude.{◌≡◌, ◌+◌, ◌<◌};
 ghost use Rattle.rules.specs.Limits.{limits};
 ghost use Rattle.rules.specs.Prune.{take_from, prune};

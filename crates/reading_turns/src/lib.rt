@@ -1,5 +1,7 @@
 // One turn of reading: a buffer is filled, its records are taken, and what is left of it is moved to its
 // front for the next turn.
+#![tactic(auto)]
+
 ghost use Rattle.std.specs.Prelude.{◌+◌, take};
 ghost use Rattle.adding.specs.Outcomes.{Ready};
 ghost use Rattle.rules.specs.Limits.{limits};
@@ -7,12 +9,13 @@ ghost use Rattle.tables.specs.Regions.{state_in};
 ghost use Rattle.long_records.specs.Turns.{Kept, Turned};
 
 use long_records::{Turn, is_long, skip_turn};
+use std::io::Read;
 use tables::PlanarGraph;
 
 // One read behind the bytes that were kept, and the records that are there then.
-pub fn read_turn(
+pub fn read_turn<R: Read>(
     graph: PlanarGraph,
-    input: i32,
+    input: &mut R,
     buffer: &mut [u8],
     kept: usize,
     floats: &mut [f64],

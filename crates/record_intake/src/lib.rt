@@ -1,5 +1,7 @@
 // One record taken into a graph whose nodes and half-edges are chained, with the places marked that line
 // ids used at first.
+#![tactic(auto)]
+
 ghost use Rattle.std.specs.Prelude.{◌≡◌, drop};
 ghost use Rattle.adding.specs.Outcomes.{Ready};
 ghost use Rattle.line_ids.specs.Free.{FreeAt};

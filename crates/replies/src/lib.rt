@@ -1,6 +1,8 @@
 // What a public entry answers, for a caller that hands over numbers: the small state and the values of
 // a reply in lent arrays of exactly their size, so that none can be too short, and the number of a
 // refusal.
+#![tactic(auto)]
+
 mod building;
 mod small;
 mod steps;

@@ -1,4 +1,6 @@
 // Resetting, in any stage.
+#![tactic(auto)]
+
 ghost use Rattle.rules.specs.Limits.{limits};
 ghost use Rattle.tables.specs.Regions.{state_in};
 ghost use Rattle.calls.specs.Replies.{step_reply};

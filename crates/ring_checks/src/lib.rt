@@ -1,4 +1,6 @@
 // The tests that ring extraction begins with (6, 7, 5, 8).
+#![tactic(auto)]
+
 mod checks;
 mod lengths;
 

@@ -1,4 +1,6 @@
 // Ring extraction without the hole list: stage 3 to 4.
+#![tactic(auto)]
+
 mod regions;
 mod sides;
 

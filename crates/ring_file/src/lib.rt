@@ -1,6 +1,8 @@
 // Ring files: a list of rings into the bytes of a file, and the rings of a file into lent lists. A list
 // of rings is four lists side by side, first places, lengths, face numbers and doubled areas, over one
 // of node numbers; it is as long as the shortest of the four.
+#![tactic(auto)]
+
 ghost use Rattle.std.specs.Prelude.{◌≡◌, min};
 ghost use Rattle.file_rules.specs.RingFile.{lent, write_rings_lem, read_rings_lem};
 ghost use Rattle.ring_file.specs.Answers.{written_of, read_of};

@@ -1,5 +1,7 @@
 // The keys of rings. The key of entry k of half_edges is (xs[k], ys[k]), so that a ring's keys stand
 // in a row. They are compared where they stand and never copied.
+#![tactic(auto)]
+
 ghost use Rattle.std.specs.Prelude.{◌≡◌, map, ℕ, ◌+◌, ◌<◌, ◌≤◌, ◌%◌, ◌^◌, length, get_or};
 ghost use Rattle.lists.specs.Lists.{upto, over, sum};
 ghost use Rattle.rotation.specs.Rotation.{key_before_lem, key_at, keys_of};
@@ -19,7 +21,7 @@ pub enum KeysOrder {
 
 // A ring's keys in the lists: where they begin, how many there are, and at which of them the least
 // rotation starts.
-#[derive(Drop)]
+#[derive(Clone, Copy)]
 pub struct Turned {
     pub first: usize,
     pub size: usize,

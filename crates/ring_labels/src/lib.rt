@@ -1,5 +1,7 @@
 // Links of half-edges to their successors, and labels of the maximal rings that these make. Carried over
 // from planar_graph.rs.
+#![tactic(auto)]
+
 mod labels;
 mod links;
 

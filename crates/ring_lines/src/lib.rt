@@ -1,4 +1,6 @@
 // The lines of the rings, from the lists that ring extraction wrote.
+#![tactic(auto)]
+
 ghost use Rattle.std.specs.Prelude.{◌≡◌, List, ◌+◌, ◌<◌, ◌≤◌, length, get_or};
 ghost use Rattle.rules.specs.Face.{Ring};
 ghost use Rattle.rules.specs.Limits.{limits};

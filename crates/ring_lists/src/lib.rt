@@ -1,4 +1,6 @@
 // Rings as they stand in the lists that ring extraction writes.
+#![tactic(auto)]
+
 ghost use Rattle.std.specs.Prelude.{◌≡◌, ℤ};
 ghost use Rattle.ring_lists.specs.Shown.{HalfOf};
 

@@ -1,6 +1,7 @@
-// The ring file of a segment file: read from a descriptor to its end, written to another. A program has
-// no status to end with, so that what went wrong is said on standard error, and nothing is written in its
-// place.
+// The ring file of a segment file: read from an input to its end, written to an output. What went wrong is
+// said on standard error, and nothing is written in its place.
+#![tactic(auto)]
+
 ghost use Rattle.std.specs.Prelude.{◌≤◌, length};
 ghost use Rattle.rules.specs.Limits.{limits};
 ghost use Rattle.tables.specs.Regions.{state_in};
@@ -9,8 +10,8 @@ ghost use Rattle.map_steps.specs.Stands.{Stands};
 ghost use Rattle.ring_records.specs.File.{file_room};
 ghost use Rattle.ring_output.specs.Output.{Tells, Writes, Ends};
 
-use libc::STDERR_FILENO;
 use ring_records::RING_FILE_ROOM;
+use std::io::{Read, Write};
 use tables::{FLOATS, IDS, MARKS, NUMBERS, PlanarGraph, STARS};
 use taking::TakeReply;
 use written_output::{complain, write_front};
@@ -55,7 +56,7 @@ fn put_taken(
 
 // Reads the input and writes what it comes to at the front of `out`. A read that failed is no end of the
 // input: then nothing is written.
-fn put_input(input: i32, out: &mut [u8]) -> Output
+fn put_input<R: Read>(input: &mut R, out: &mut [u8]) -> Output
     requires { file_room limits ≤ length out.old }
     ensures text { Writes result out.old out.new }
     ensures size { Ends result out.new }
@@ -94,12 +95,12 @@ fn put_input(input: i32, out: &mut [u8]) -> Output
 }
 
 // Writes the ring file of the segments that can be read from `input` to `output`; the line of a refusal
-// goes to standard error.
-pub fn polygonize(input: i32, output: i32) {
+// and what failed go to `errors`.
+pub fn polygonize<R: Read, W: Write, E: Write>(input: &mut R, output: &mut W, errors: &mut E) {
     let mut buffer = [0u8; RING_FILE_ROOM];
     match put_input(input, &mut buffer) {
-        Output::File(size) => write_front(output, &buffer, size),
-        Output::Refusal(size) => write_front(STDERR_FILENO, &buffer, size),
-        Output::Failed => complain(b"read error\n"),
+        Output::File(size) => write_front(output, errors, &buffer, size),
+        Output::Refusal(size) => complain(errors, &buffer[..size]),
+        Output::Failed => complain(errors, b"read error\n"),
     }
 }

@@ -2,7 +2,7 @@
 use Prim.Native.Nat.{ℕ, ◌+◌, ◌*◌, ◌<◌, ◌≤◌}
 use native.Mathlib.Omega.{arith}
 use mathlib.Core.Path.{◌≡◌, refl, sym, ap, ◌∙◌, subst}
-use mathlib.Core.Bool.{false, cond, or_true}
+use mathlib.Core.Bool.{false, cond, or-true}
 use mathlib.Core.List.{List, map}
 use lib.ListN.{length, take}
 use mir.Syntax.{w64}
@@ -76,7 +76,7 @@ module _ (s : List ℕ) (size : ℕ) (e : frame s ≡ taken 2 size) where
       let f = ring-frame s size e in
       let other : field s 0 4 ≡ 14 + 2 * n → ⊥ = λ x. d (omega (arith, f.is_size, x)) in
       ring_next_lem (map (λ i. field (take size s) (18 + 2 * i) 2) (upto (field (take size s) 8 2))) refl
-      ∙ rw (z, ne_eqb (field s 0 4) (14 + 2 * n) other, or_true) refl
+      ∙ rw (z, ne_eqb (field s 0 4) (14 + 2 * n) other, or-true) refl
 
   -- else the ring
   pub ring-taken : (n : ℕ) → field s 8 2 ≡ n → (n ≡ 0 → ⊥) → size ≡ 18 + 2 * n → ring_next s ≡ taken (ring_of s n) (18 + 2 * n)

@@ -1,4 +1,6 @@
 // Rings in the bytes of a file: what a place holds, and how many rings and nodes there are.
+#![tactic(auto)]
+
 ghost use Rattle.std.specs.Prelude.{◌≡◌, ◌+◌, drop};
 ghost use Rattle.file_rules.specs.Records.{taken, frame, read_file};
 ghost use Rattle.file_rules.specs.RingFile.{ring_next};

@@ -1,4 +1,6 @@
 // The rings that ring extraction listed, into the bytes of a ring file.
+#![tactic(auto)]
+
 ghost use Rattle.std.specs.Prelude.{◌≡◌, List, ◌≤◌, ℤ, length, get_or};
 ghost use Rattle.lists.specs.Lists.{over};
 ghost use Rattle.lists.specs.Buffer.{Put};

@@ -1,4 +1,6 @@
 // What ring extraction answers, for a caller that hands over numbers.
+#![tactic(auto)]
+
 ghost use Rattle.hole_entry.specs.Replies.{rings_reply};
 ghost use Rattle.replies.specs.Lent.{Answered};
 ghost use Rattle.ring_replies.specs.Values.{ring_values};

@@ -1,4 +1,6 @@
 // What a list of rings must pass before any of it is written.
+#![tactic(auto)]
+
 ghost use Rattle.std.specs.Prelude.{◌≡◌, ◌&&◌, ◌+◌, ◌≤◌, ltb, leb, length};
 ghost use Rattle.lists.specs.Lists.{upto, all};
 ghost use Rattle.ring_writing.specs.Rings.{writable_at, sizes_at};

@@ -1,4 +1,6 @@
 // The side of a ring, read back from the lists that ring extraction replied.
+#![tactic(auto)]
+
 ghost use Rattle.std.specs.Prelude.{◌≡◌};
 ghost use Rattle.ring_sides.specs.Sides.{side_at_lem};
 

@@ -1,4 +1,6 @@
 // The ring file of a graph that was built: the four steps, one after another, and then the records.
+#![tactic(auto)]
+
 ghost use Rattle.std.specs.Prelude.{◌≤◌, length};
 ghost use Rattle.rules.specs.Limits.{limits};
 ghost use Rattle.tables.specs.Regions.{state_in};

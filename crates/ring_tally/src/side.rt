@@ -3,7 +3,7 @@ ghost use Rattle.std.specs.Prelude.{◌≡◌};
 ghost use Rattle.rules.specs.Ringing.{side_number_lem, side_area_lem};
 ghost use Rattle.ring_tally.specs.Sides.{side_of, sign_side};
 
-#[derive(Drop)]
+#[derive(Clone, Copy)]
 pub enum RingSide {
     Enclosed(f64),
     Open(f64),

@@ -14,7 +14,7 @@ pub const KEYS_Y: usize = MAX_HALF_EDGES;
 pub const KEYS: usize = 2 * MAX_HALF_EDGES;
 
 // The sum is not halved.
-#[derive(Drop)]
+#[derive(Clone, Copy)]
 pub struct Tally {
     pub count: u16,
     pub sum: f64,

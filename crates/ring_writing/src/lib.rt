@@ -1,4 +1,6 @@
 // Rings into the bytes of a file, each number with its lowest byte first.
+#![tactic(auto)]
+
 mod numbers;
 mod records;
 

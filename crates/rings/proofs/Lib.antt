@@ -2,6 +2,7 @@
 pub mod Entries
 pub mod Keying
 pub mod Walking
+pub mod Walkable
 pub mod Rows
 pub mod Bounds
 pub mod Meaning

@@ -1,5 +1,7 @@
 // The search for a node by its key and for a half-edge by its ends, as in `add_node` and `add_line` of
 // planar_graph.rs.
+#![tactic(auto)]
+
 ghost use Rattle.std.specs.Prelude.{◌≡◌, ◌&&◌, ℕ, ◌+◌, ◌*◌, ◌<◌, ◌≤◌, eqb, length, get_or, take};
 ghost use Rattle.lists.specs.Lists.{In};
 ghost use Rattle.rotation.specs.Rotation.{key_same};

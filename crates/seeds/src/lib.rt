@@ -1,5 +1,7 @@
 // The seeds from which pieces are filled: nodes by least x, then y, then node. Carried over from
 // active_component_ids_with_execution_policy of planar_graph.rs.
+#![tactic(auto)]
+
 mod seeds;
 
 ghost use Rattle.std.specs.Prelude.{◌≡◌, ◌<◌, length, get_or};

@@ -1,5 +1,7 @@
 // The segment file: what stands at a place of its bytes. A segment's record is its length and kind, a
 // line id and six floats, each with its lowest byte first; every other record is passed over.
+#![tactic(auto)]
+
 ghost use Rattle.std.specs.Prelude.{◌≡◌, ◌+◌, ◌≤◌, length, drop};
 ghost use Rattle.std.specs.Float.{binary64};
 ghost use Rattle.std.specs.Float.Ieee.{of_bits};

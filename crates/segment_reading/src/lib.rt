@@ -1,6 +1,8 @@
 // Reading a segment file as it comes: a buffer is filled, its records are taken, and what is left of it
 // is moved to its front for the next read. A record that is longer than the buffer is passed over
 // without being held.
+#![tactic(auto)]
+
 ghost use Rattle.std.specs.Prelude.{◌+◌};
 ghost use Rattle.adding.specs.Outcomes.{Ready};
 ghost use Rattle.rules.specs.Limits.{limits};
@@ -10,6 +12,7 @@ ghost use Rattle.segment_reading.specs.Reading.{ReadAll};
 use buffered_input::Source;
 use long_records::{BUFFER_BYTES, capped, goes_on};
 use reading_turns::read_turn;
+use std::io::Read;
 use tables::PlanarGraph;
 use taking::TakeReply;
 
@@ -25,9 +28,9 @@ pub struct ReadOut {
 }
 
 // Reads to the end of the input, to the first bad record or to a read that fails.
-pub fn read_segments(
+pub fn read_segments<R: Read>(
     graph: PlanarGraph,
-    input: i32,
+    input: &mut R,
     floats: &mut [f64],
     numbers: &mut [u16],
     stars: &mut [u16],

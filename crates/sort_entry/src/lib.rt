@@ -1,4 +1,6 @@
 // Sorting the stars: stage 0 to 1.
+#![tactic(auto)]
+
 ghost use Rattle.rules.specs.Limits.{limits};
 ghost use Rattle.tables.specs.Regions.{state_in};
 ghost use Rattle.calls.specs.Replies.{step_reply};

@@ -1,4 +1,6 @@
 // Number 7: the soundness list and the lists of line ids, of tables that are regions.
+#![tactic(auto)]
+
 ghost use Rattle.std.specs.Prelude.{◌≡◌, List, ℕ, ◌≤◌, length};
 ghost use Rattle.rules.specs.Limits.{limits};
 ghost use Rattle.rules.specs.LineIds.{sound_lists};

@@ -1,5 +1,7 @@
 // Splitting the maximal rings at the nodes that they pass more than once. Carried over from
 // planar_graph.rs.
+#![tactic(auto)]
+
 mod reads;
 mod split;
 

@@ -1,4 +1,6 @@
 // The flat star table: its stars grouped by node; and which half-edges of a star are active.
+#![tactic(auto)]
+
 mod group;
 
 ghost use Rattle.std.specs.Prelude.{◌≡◌, ◌<◌, length};

@@ -1,5 +1,7 @@
 // Pruning and cutting, for a station that is written in Rust: entries on numbers and slices. Each answers 0,
 // or the number of a refusal.
+#![tactic(auto)]
+
 mod cut;
 mod prune;
 

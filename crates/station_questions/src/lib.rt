@@ -1,5 +1,7 @@
 // An angular order, a least rotation and one record of a segment file, for a station that is written in
 // Rust: entries on numbers and slices, and no graph. Each answers 0, or the number of a refusal.
+#![tactic(auto)]
+
 mod angle;
 mod least_rotation;
 mod record;

@@ -1,5 +1,7 @@
 // Ring files, for a station that is written in Rust: entries on numbers and slices. Each answers 0, or
 // the number of a refusal.
+#![tactic(auto)]
+
 mod reading;
 mod writing;
 

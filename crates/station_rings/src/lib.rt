@@ -1,6 +1,8 @@
 // Ring extraction, for a station that is written in Rust: an entry on numbers and slices. It answers 0,
-// or the number of a refusal. A lent slice of records is covered by no rule of the prover, so the
-// entry, which is proved by hand, only calls the core and has the records written.
+// or the number of a refusal. The core lists the rings and finds their holes, and the entry has the
+// records written.
+#![tactic(auto)]
+
 mod telling;
 
 ghost use Rattle.std.specs.Prelude.{◌≡◌};

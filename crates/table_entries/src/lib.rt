@@ -1,4 +1,6 @@
 // What a new edge writes, slice by slice.
+#![tactic(auto)]
+
 ghost use Rattle.std.specs.Prelude.{◌≡◌, false, ◌+◌, ◌*◌, ◌<◌, ◌≤◌, length};
 ghost use Rattle.rules.specs.Adding.{put_segment_lem};
 ghost use Rattle.rules.specs.Limits.{limits};

@@ -89,7 +89,7 @@ seen_all n star seen long s = sym (all-upto (stands_once n star) n (λ v q. eq-e
     -- nothing is there twice
     most : (v : ℕ) → count_of v (take n star) ≡ 0 → (w : ℕ) → count_of w (v ∷ take n star) ≤ 1
     most v none w = by_eq w v
-        (λ e. rw e (omega (arith, bit_le (eqb v v))))
+        (λ e. omega (arith, none, ap (λ u. count_of u (take n star)) e, bit_le (eqb w v)))
         (λ d. by_lt w n
         (λ h. omega (arith, s.marks w h, bit_le (get_or seen w false), bit-other w v d))
         (λ h. omega (arith, s.only w h, bit-other w v d)))
@@ -146,8 +146,8 @@ pub counted_more : (nodes : ℕ) (source : List ℕ) (h : ℕ) (counts : List �
 counted_more nodes source h counts m e small k = record {
   size = length-set counts m (get_or counts m 0 + 1) ∙ k.size;
   each = λ n q. rw (add-one h) (by_eq n m
-      (λ d. rw (d, get_or-set_same counts m (get_or counts m 0 + 1) 0 (omega (arith, k.size)))
-      (omega (arith, k.each m small, length-below (λ i. eqb (get_or source i 0) m) h, bit-same (get_or source h 0) m (sym e))))
+      (λ d. let at : get_or (set counts m (get_or counts m 0 + 1)) n 0 ≡ get_or counts m 0 + 1 = rw d (get_or-set_same counts m (get_or counts m 0 + 1) 0 (omega (arith, k.size))) in
+      omega (arith, at, k.each n q, ap (λ v. get_or counts v 0) d, length-below (λ i. eqb (get_or source i 0) n) h, bit-same (get_or source h 0) n (sym (d ∙ e))))
       (λ d. rw (get_or-set_other counts m n (get_or counts m 0 + 1) 0 d)
       (omega (arith, k.each n q, length-below (λ i. eqb (get_or source i 0) n) h, bit-other (get_or source h 0) n (λ z. d (sym z ∙ sym e))))));
 }

@@ -3,13 +3,13 @@
 ghost use Rattle.std.specs.Prelude.{◌≡◌};
 ghost use Rattle.rules.specs.HalfEdge.{twin};
 
-#[derive(Drop)]
+#[derive(Clone, Copy)]
 pub struct NodeId(pub u16);
 
-#[derive(Drop)]
+#[derive(Clone, Copy)]
 pub struct EdgeId(pub u16);
 
-#[derive(Drop)]
+#[derive(Clone, Copy)]
 pub struct DirEdgeId(pub u16);
 
 #[derive(Drop)]

@@ -1,4 +1,6 @@
 // The small state of the graph, its numbers, the limits of its tables, and where these lie.
+#![tactic(auto)]
+
 ghost use Rattle.std.specs.Prelude.{◌≡◌, true, ◌<◌, length, get_or};
 ghost use Rattle.tables.specs.Refusals.{refusal_number_lem};
 ghost use Rattle.tables.specs.Tables.{at_stage_lem};
@@ -14,7 +16,7 @@ pub use crate::layout::{
 
 // The counts and the stage: 0 building, 1 sorted, 2 pruned, 3 cut, 4 ringed. The tables are lent
 // beside it.
-#[derive(Drop)]
+#[derive(Clone, Copy)]
 pub struct PlanarGraph {
     pub node_count: u16,
     pub edge_count: u16,
@@ -35,7 +37,7 @@ impl PlanarGraph {
 }
 
 // Why a call is refused, by document 01's numbers 1 to 8 and document 02's 12 and 13.
-#[derive(Drop)]
+#[derive(Clone, Copy)]
 pub enum Refusal {
     NotWhole,
     SameNode,

@@ -1,4 +1,6 @@
 // The text of what was taken from a segment file: a listing, or the line of the first refusal.
+#![tactic(auto)]
+
 ghost use Rattle.rules.specs.Limits.{limits};
 ghost use Rattle.tables.specs.Regions.{state_in};
 ghost use Rattle.taking.specs.Answers.{reply_of};

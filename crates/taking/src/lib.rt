@@ -1,4 +1,6 @@
 // What taking the records of a segment file answers, record by record and for all of them.
+#![tactic(auto)]
+
 ghost use Rattle.std.specs.Prelude.{◌≡◌};
 ghost use Rattle.adding.specs.Outcomes.{reply_of as addReplyOf};
 ghost use Rattle.taking.specs.Taking.{after_adding_lem};
@@ -8,7 +10,7 @@ use adding::AddReply;
 use tables::{PlanarGraph, refusal_number};
 
 // What taking answers: all was taken, or the documents' number of the first refusal.
-#[derive(Drop)]
+#[derive(Clone, Copy)]
 pub enum TakeReply {
     Done,
     Refused(u32),

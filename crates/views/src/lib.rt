@@ -1,6 +1,8 @@
 // The views in which rings are boxed. As the map is, most rings have boxes narrow enough; thin rings
 // along a diagonal have narrow ones in a slanted view alone, where a point's place to the right is
 // x + y or x - y.
+#![tactic(auto)]
+
 ghost use Rattle.std.specs.Prelude.{◌≡◌, ℕ, ◌<◌, ◌≤◌, length, get_or};
 ghost use Rattle.geometry.specs.Coordinate.{coordinate_bound};
 ghost use Rattle.inside.specs.Spots.{spot, Near, Spotted};

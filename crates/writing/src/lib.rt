@@ -1,4 +1,6 @@
 // Writing a new node, a new edge, and a new line id behind an edge into the five lent slices.
+#![tactic(auto)]
+
 mod edge;
 mod ids;
 mod node;

@@ -1,18 +1,20 @@
-// What a program writes: the front of a buffer to a descriptor, and what failed to standard error.
+// What a program writes: the front of a buffer to its output, and what failed to standard error.
+#![tactic(auto)]
+
 ghost use Rattle.std.specs.Prelude.{◌≤◌, length};
 
-use libc::STDERR_FILENO;
+use std::io::Write;
 
 // Says on standard error what failed. Nothing is written in its place.
-pub fn complain(what: &[u8]) {
-    io::write_all(STDERR_FILENO, what);
+pub fn complain<E: Write>(errors: &mut E, what: &[u8]) {
+    let _ = errors.write_all(what);
 }
 
 // Writes the first bytes of a buffer.
-pub fn write_front(output: i32, buffer: &[u8], size: usize)
+pub fn write_front<W: Write, E: Write>(output: &mut W, errors: &mut E, buffer: &[u8], size: usize)
     requires { size ≤ length buffer.now }
 {
-    if !io::write_all(output, &buffer[..size]) {
-        complain(b"write error\n");
+    if output.write_all(&buffer[..size]).is_err() {
+        complain(errors, b"write error\n");
     }
 }

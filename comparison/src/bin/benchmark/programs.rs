@@ -33,7 +33,7 @@ enum Input<'a> {
 pub fn measure(files: &[(&str, Vec<u8>)]) {
     let root = Path::new(env!("CARGO_MANIFEST_DIR")).join("..");
     let listing = Program {
-        path: root.join("target/bin/listing"),
+        path: root.join("crates/listing/out/listing"),
         arguments: &[],
     };
     let original = Program {
@@ -42,7 +42,7 @@ pub fn measure(files: &[(&str, Vec<u8>)]) {
     };
     println!("\nfile to listing, as processes");
     for (program, build) in [
-        (&listing, "`rt check listing` in the root of the repository"),
+        (&listing, "`rt run` in crates/listing"),
         (&original, "`cargo build --release` in oracle"),
     ] {
         if !program.path.exists() {

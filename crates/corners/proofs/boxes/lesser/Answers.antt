@@ -1,0 +1,13 @@
+-- `lesser` meets its contract.
+use native.Mathlib.Omega.{arith}
+use mathlib.Core.Path.{sym, ◌∙◌}
+use Rattle.corners.specs.Boxes.{lower}
+use Rattle.corners.proofs.Whole.{entries_compared}
+use Rattle.corners.proofs.Firsts.{second-first, first-first, lower-order}
+use Rattle.corners.proofs.boxes.lesser.Goals as goal
+
+pub returns-then-table-wide : goal.returns-then-table-wide
+returns-then-table-wide c = second-first (lower c.args.table.now) (lower-order c.args.table.now) c.args.a c.args.b (sym (entries_compared c.args.table.now c.wide.result c.wide-2.result c.args.b c.args.a (omega arith) (omega arith) c.wide.ensures c.wide-2.ensures) ∙ c.if-table-wide.true)
+
+pub returns : goal.returns
+returns c = first-first (lower c.args.table.now) (lower-order c.args.table.now) c.args.a c.args.b (sym (entries_compared c.args.table.now c.wide.result c.wide-2.result c.args.b c.args.a (omega arith) (omega arith) c.wide.ensures c.wide-2.ensures) ∙ c.if-table-wide.false)

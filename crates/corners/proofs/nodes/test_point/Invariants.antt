@@ -1,0 +1,12 @@
+-- `test_point` meets its contract. The invariant: the point is the leftmost without the stamp among the nodes gone through.
+use Prim.Native.Nat.{◌-◌, ◌≤◌}
+use lib.ListN.{length, take}
+use Rattle.inside.specs.Spots.{spot_in}
+use Rattle.corners.specs.Nodes.{unstamped, Leftmost}
+use Rattle.corners.proofs.nodes.test_point.Given as goal
+
+abbrev pub invariant-loop-k : goal.invariant-loop-k
+invariant-loop-k l = (l.k ≤ length l.nodes) × Leftmost (spot_in l.xs l.ys) (unstamped l.stamp l.stamps (take l.k l.nodes)) l.point
+
+abbrev pub decreases-loop-k : goal.decreases-loop-k
+decreases-loop-k l = length l.nodes - l.k

@@ -1,0 +1,12 @@
+-- `le64` meets its contract: its two halves, joined.
+use Prim.Native.Nat.{◌+◌, ◌≤◌}
+use native.Mathlib.Omega.{arith}
+use lib.ListN.{length}
+use Rattle.frames.proofs.Bytes.{field-join}
+use Rattle.frames.proofs.le64.Goals as goal
+
+pub returns : goal.returns
+returns c =
+    let a = c.args in
+    let r : a.at + 4 ≤ length a.bytes.now = omega arith in
+    field-join 4 4 a.bytes.now a.at c.le32-low.result c.le32-high.result r c.le32-low.ensures c.le32-high.ensures

@@ -1,0 +1,41 @@
+-- `mark_cuts` meets its contract: cutting succeeds.
+use mathlib.Core.Path.{◌≡◌, refl, ap}
+use Prim.Native.Nat.{ℕ}
+use mathlib.Core.List.{List}
+use lib.ListN.{length, replicate}
+use Rattle.lists.specs.Lists.{over}
+use Rattle.geometry.specs.Reply.{success}
+use Rattle.rules.specs.Limits.{limits}
+use Rattle.rules.specs.Euler.{census}
+use Rattle.rules.specs.State.{State, arrangement}
+use Rattle.rules.specs.Stages.{cuts_of, cut_state, cut_step}
+use Rattle.rules.proofs.Going.{cut-is, cut_went}
+use Rattle.tables.specs.Regions.{state_in}
+use Rattle.calls.specs.Replies.{left_with}
+use Rattle.cut_entry.specs.Replies.{cut_reply}
+use Rattle.map_steps.proofs.Steps.{unrefused, answered, leaves, edge-room}
+use Rattle.map_steps.proofs.mark_cuts.Goals as goal
+use Rattle.map_steps.proofs.mark_cuts.Goals.{Start}
+
+-- the state that the slices hold
+abbrev held : Start → State
+held c = let a = c.args in state_in limits a.graph a.floats.now a.numbers.now a.stars.now a.marks.now a.ids.now
+
+-- cutting succeeds
+done : (c : Start)
+    → let out : List ℕ = replicate limits.edges 0 in
+    cut_step limits (held c) out ≡ left_with (success (record { count = length (cuts_of (held c)); census = census (arrangement (held c)) })) (cut_state (held c)) (over (cuts_of (held c)) out)
+done c = cut-is limits (held c) c.requires.held (replicate limits.edges 0) c.requires.here (edge-room (held c) c.requires.held)
+
+pub returns-in-Cuts : goal.returns-in-Cuts
+returns-in-Cuts c =
+    let w = goal.at.returns-in-Cuts c in
+    let s = leaves _ _ _ _ _ c.delete_cut_edges-done.ensures (done w.Start) in
+    let n = answered _ _ _ _ _ _ _ c.delete_cut_edges-done.ensures (done w.Start) refl (ap cut_reply c.in-Cuts.is) in
+    λ i. record { state = s i; count = (n i).count }
+
+-- no step refuses what is sound and in its stage
+pub returns-in-Refused : goal.returns-in-Refused
+returns-in-Refused c =
+    let k = held (goal.at.returns-in-Refused c).Start in
+    absurd (unrefused _ _ _ _ c.delete_cut_edges-done.ensures (cut_went limits k c.requires.held _ c.requires.here (edge-room k c.requires.held)).goes.succeeds _ (ap cut_reply c.in-Refused.is))

@@ -1,0 +1,11 @@
+-- `survey_file` meets its contract. The invariant: the rings and node numbers before `at` are counted.
+use Prim.Native.Nat.{◌-◌}
+use lib.ListN.{length}
+use Rattle.ring_reading.proofs.Progress.{Surveying}
+use Rattle.ring_reading.proofs.survey_file.Given as goal
+
+abbrev pub invariant-loop-count : goal.invariant-loop-count
+invariant-loop-count l = Surveying l.bytes l.at l.rings l.nodes
+
+abbrev pub decreases-loop-count : goal.decreases-loop-count
+decreases-loop-count l = length l.bytes - l.at
