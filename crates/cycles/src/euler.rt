@@ -21,7 +21,8 @@ fn count_vertices(nodes: u16, pieces: &[u16]) -> u16
     let mut count: u16 = 0;
     let mut k = 0;
     while k < n {
-        if 0 < pieces[k] {
+        let placed = 0 < pieces[k];
+        if placed {
             count += 1;
         }
         k += 1;

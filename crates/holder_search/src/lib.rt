@@ -35,10 +35,12 @@ fn comes_first(
     }
     let mine = doubled_of(numbers, j);
     let other = doubled_of(numbers, best);
-    if mine < other {
+    let smaller = mine < other;
+    if smaller {
         return true;
     }
-    if other < mine {
+    let larger = other < mine;
+    if larger {
         return false;
     }
     ring_face[wide(rings[j])] < ring_face[wide(rings[best])]

@@ -39,15 +39,15 @@ other_first c =
     let e = c.doubled_of-other in
     compared e.result d.result (record { sfits = e.type_inv }) (record { sfits = d.type_inv }) ∙ ap₂ lt_z e.ensures d.ensures
 
-pub returns-then-mine-other : goal.returns-then-mine-other
-returns-then-mine-other c =
-    let d = (goal.at.returns-then-mine-other c).After-doubled_of-other in
-    rw (one d, sym (mine_first d) ∙ c.if-mine-other.true) refl
+pub returns-then-smaller : goal.returns-then-smaller
+returns-then-smaller c =
+    let d = (goal.at.returns-then-smaller c).After-doubled_of-other in
+    rw (one d, sym (mine_first d) ∙ c.if-smaller.true) refl
 
-pub returns-then-other-mine : goal.returns-then-other-mine
-returns-then-other-mine c =
-    let d = (goal.at.returns-then-other-mine c).After-doubled_of-other in
-    rw (one d, sym (mine_first d) ∙ c.if-mine-other.false, sym (other_first d) ∙ c.if-other-mine.true) refl
+pub returns-then-larger : goal.returns-then-larger
+returns-then-larger c =
+    let d = (goal.at.returns-then-larger c).After-doubled_of-other in
+    rw (one d, sym (mine_first d) ∙ c.if-smaller.false, sym (other_first d) ∙ c.if-larger.true) refl
 
 pub bounds-ring_face-wide : goal.bounds-ring_face-wide
 bounds-ring_face-wide c = omega (arith, c.wide.ensures, c.requires.4 c.args.j c.requires.0)
@@ -59,5 +59,5 @@ pub returns : goal.returns
 returns c =
     let d = (goal.at.returns c).After-doubled_of-other in
     let face = c.args.ring_face.now in
-    rw (one d, sym (mine_first d) ∙ c.if-mine-other.false, sym (other_first d) ∙ c.if-other-mine.false)
+    rw (one d, sym (mine_first d) ∙ c.if-smaller.false, sym (other_first d) ∙ c.if-larger.false)
     (ap₂ (λ v w. ltb (get_or face v 0) (get_or face w 0)) c.wide.ensures c.wide-2.ensures)

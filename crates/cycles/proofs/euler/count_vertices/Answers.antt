@@ -9,7 +9,7 @@ use lib.ListN.{length, get_or}
 use Rattle.lists.specs.Lists.{below, bit}
 use Rattle.lists.proofs.Counts.{length-below}
 use Rattle.cycles.proofs.euler.count_vertices.Goals as goal
-use Rattle.cycles.proofs.euler.count_vertices.Goals.{then-pieces-k-gt0, else-pieces-k-gt0}
+use Rattle.cycles.proofs.euler.count_vertices.Goals.{then-placed, else-placed}
 
 pub loop-k-init : goal.loop-k-init
 loop-k-init c = (omega arith, omega arith, refl)
@@ -20,9 +20,9 @@ loop-k-preserved c =
     let q = c.loop-k in
     let t : ℕ → Bool = λ j. ltb 0 (get_or l j 0) in
     let one : length (below t (q.k + 1)) ≡ length (below t q.k) + bit (t q.k) = ap (λ k. length (below t k)) (add-one q.k) ∙ length-below t q.k in
-    elim c.if-pieces-k-gt0.branch [
-      | then-pieces-k-gt0 w ↦ (omega arith, omega (arith, w.count-is), omega (arith, w.count-is, q.invariant.2, one, ap bit (lt-ltb 0 (get_or l q.k 0) w.if-pieces-k-gt0.true)))
-      | else-pieces-k-gt0 w ↦ (omega arith, omega (arith, w.count-is), omega (arith, w.count-is, q.invariant.2, one, ap bit (le-ltb 0 (get_or l q.k 0) w.if-pieces-k-gt0.false)))
+    elim c.if-placed.branch [
+      | then-placed w ↦ (omega arith, omega (arith, w.count-is), omega (arith, w.count-is, q.invariant.2, one, ap bit (lt-ltb 0 (get_or l q.k 0) w.if-placed.true)))
+      | else-placed w ↦ (omega arith, omega (arith, w.count-is), omega (arith, w.count-is, q.invariant.2, one, ap bit (le-ltb 0 (get_or l q.k 0) w.if-placed.false)))
     ]
 
 pub returns : goal.returns
