@@ -21,7 +21,7 @@ pub enum AddReply {
 }
 
 // The state after an addition, and its answer.
-#[derive(Drop)]
+#[derive(Clone, Copy)]
 pub struct Added {
     pub graph: PlanarGraph,
     pub reply: AddReply,
@@ -38,7 +38,7 @@ pub struct Ends {
 
 // What an addition comes to, before anything is written: a new edge, one more line id behind an edge
 // that is there, nothing that is not there already, or a refusal.
-#[derive(Drop)]
+#[derive(Clone, Copy)]
 pub enum Decision {
     Make(Ends),
     Enter(EdgeId),

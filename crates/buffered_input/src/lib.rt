@@ -16,7 +16,7 @@ pub enum Source {
 }
 
 // How many bytes came, and whether there may be more.
-#[derive(Drop)]
+#[derive(Clone, Copy)]
 pub struct Brought {
     pub got: usize,
     pub source: Source,

@@ -9,7 +9,7 @@ use tables::{FLOATS, IDS, MARKS, NUMBERS, PlanarGraph, Refusal, STARS};
 use taken_text::put_taken;
 
 // What is answered: how many bytes the text has, or the refusal of a buffer that is too short.
-#[derive(Drop)]
+#[derive(Clone, Copy)]
 pub enum Listed {
     Text(usize),
     Refused(Refusal),

@@ -12,7 +12,7 @@ use tables::{
 };
 
 // A table in its slice: where it begins, and how many entries it has.
-#[derive(Drop)]
+#[derive(Clone, Copy)]
 struct Region {
     at: usize,
     size: usize,

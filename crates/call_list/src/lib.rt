@@ -40,7 +40,7 @@ pub enum Call {
 }
 
 // A line's call, where the line ends, and where the next one begins.
-#[derive(Drop)]
+#[derive(Clone, Copy)]
 pub struct Read {
     pub call: Call,
     pub end: usize,

@@ -25,7 +25,7 @@ pub struct Real {
 }
 
 // What digits say.
-#[derive(Drop)]
+#[derive(Clone, Copy)]
 enum Natural {
     Is(u64),
     Not,

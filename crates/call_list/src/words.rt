@@ -6,27 +6,27 @@ use crate::numbers::{Number, count_of, number_in, real_of};
 use crate::scanning::find_byte;
 use geometry::Coord3D;
 
-#[derive(Drop)]
+#[derive(Clone, Copy)]
 pub struct NumberWord {
     pub number: Number,
     pub stop: usize,
 }
 
-#[derive(Drop)]
+#[derive(Clone, Copy)]
 pub struct FloatWord {
     pub clear: bool,
     pub value: f64,
     pub stop: usize,
 }
 
-#[derive(Drop)]
+#[derive(Clone, Copy)]
 pub struct CountWord {
     pub clear: bool,
     pub value: u64,
     pub stop: usize,
 }
 
-#[derive(Drop)]
+#[derive(Clone, Copy)]
 pub struct CoordWords {
     pub clear: bool,
     pub coord: Coord3D,

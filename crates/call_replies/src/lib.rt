@@ -31,7 +31,7 @@ pub enum Reply {
 }
 
 // The counts and the stage after a call, and its reply.
-#[derive(Drop)]
+#[derive(Clone, Copy)]
 pub struct Outcome {
     pub graph: PlanarGraph,
     pub reply: Reply,

@@ -9,7 +9,7 @@ use std::io::Write;
 const LONGEST: usize = 20;
 
 // What a float is as a whole number.
-#[derive(Drop)]
+#[derive(Clone, Copy)]
 enum Whole {
     Is(u64),
     Not,

@@ -10,7 +10,7 @@ use holes::Hole;
 use tables::MAX_SHAPED;
 
 // What the call did, and the holes that the entry would write.
-#[derive(Drop)]
+#[derive(Clone, Copy)]
 pub struct Extraction {
     pub outcome: Outcome,
     pub list: [Hole; MAX_SHAPED],

@@ -10,7 +10,7 @@ use soundness::is_sound;
 use tables::{PlanarGraph, Refusal};
 
 // The first test that fails, or none.
-#[derive(Drop)]
+#[derive(Clone, Copy)]
 pub enum Checked {
     Passed,
     Refused(Refusal),

@@ -10,14 +10,14 @@ pub use room::has_room;
 use tables::{PlanarGraph, Refusal};
 
 // What sorting and resetting answer.
-#[derive(Drop)]
+#[derive(Clone, Copy)]
 pub enum StepReply {
     Done,
     Refused(Refusal),
 }
 
 // The counts and the stage after such a call, and its answer.
-#[derive(Drop)]
+#[derive(Clone, Copy)]
 pub struct Stepped {
     pub graph: PlanarGraph,
     pub reply: StepReply,

@@ -8,7 +8,7 @@ use crate::nodes::left_of;
 use tables::wide;
 
 // The node of least x, then least y, and nodes of greatest x, least y and greatest y.
-#[derive(Drop)]
+#[derive(Clone, Copy)]
 pub struct Sides {
     pub left: u16,
     pub right: u16,

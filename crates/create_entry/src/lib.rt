@@ -11,7 +11,7 @@ ghost use Rattle.create_entry.specs.Clause.{Creates};
 use tables::{PlanarGraph, Refusal};
 
 // What creating answers: the counts and the stage of an empty graph, or a refusal.
-#[derive(Drop)]
+#[derive(Clone, Copy)]
 pub enum Created {
     Graph(PlanarGraph),
     Refused(Refusal),

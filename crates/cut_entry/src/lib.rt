@@ -15,14 +15,14 @@ use tables::{PlanarGraph, Refusal};
 
 // What cutting answers: how many edges it listed, with V, E, cycles, C and the verdict as they were
 // before, or a refusal.
-#[derive(Drop)]
+#[derive(Clone, Copy)]
 pub enum CutReply {
     Cuts(u16, Census),
     Refused(Refusal),
 }
 
 // The counts and the stage after the call, and its answer.
-#[derive(Drop)]
+#[derive(Clone, Copy)]
 pub struct Cutting {
     pub graph: PlanarGraph,
     pub reply: CutReply,

@@ -26,7 +26,7 @@ pub struct Census {
 
 // What cutting answers: the graph in its next stage, how many edges were cut, and the census taken
 // before that.
-#[derive(Drop)]
+#[derive(Clone, Copy)]
 pub struct CutDone {
     pub graph: PlanarGraph,
     pub count: u16,

@@ -16,14 +16,14 @@ use taking::TakeReply;
 
 // What is answered: how many records were taken, those passed over among them, and the number of the
 // refusal that ended it, 0 where the file did; or the refusal of the call, which added none.
-#[derive(Drop)]
+#[derive(Clone, Copy)]
 pub enum FileReply {
     Taken(usize, u32),
     Refused(Refusal),
 }
 
 // The counts and the stage after the call, and its answer.
-#[derive(Drop)]
+#[derive(Clone, Copy)]
 pub struct FileAdded {
     pub graph: PlanarGraph,
     pub reply: FileReply,

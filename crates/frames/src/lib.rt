@@ -23,7 +23,7 @@ const SEGMENT_LENGTH: u32 = 54;
 pub const RING_HEAD: u32 = 14;
 
 // Why a record is refused, by the documents' numbers 9 to 11.
-#[derive(Drop)]
+#[derive(Clone, Copy)]
 pub enum FileRefusal {
     Short,
     Length,
@@ -43,7 +43,7 @@ pub fn file_number(why: FileRefusal) -> u32
 
 // What the bytes at a place begin with: a record by its kind, with how many bytes it takes in all; or
 // no byte is left.
-#[derive(Drop)]
+#[derive(Clone, Copy)]
 pub enum Frame {
     Segment(usize),
     Ring(usize),

@@ -20,14 +20,14 @@ use tables::{MAX_SHAPED, PlanarGraph, Refusal};
 
 // What ring extraction answers: how many rings it listed, with V, E, cycles, C and the verdict, how
 // many comparisons naming them took, and how many half-edges and holes it wrote; or a refusal.
-#[derive(Drop)]
+#[derive(Clone, Copy)]
 pub enum RingsReply {
     Rings(u16, Census, u16, u16, u16),
     Refused(Refusal),
 }
 
 // The counts and the stage after the call, and its answer.
-#[derive(Drop)]
+#[derive(Clone, Copy)]
 pub struct Ringed {
     pub graph: PlanarGraph,
     pub reply: RingsReply,

@@ -20,7 +20,7 @@ use tables::{MAX_PAIRS, PlanarGraph};
 
 // The state after an addition, its answer, and the lowest free place for the next one, MAX_PAIRS where
 // there is none.
-#[derive(Drop)]
+#[derive(Clone, Copy)]
 pub struct Addition {
     pub graph: PlanarGraph,
     pub reply: AddReply,

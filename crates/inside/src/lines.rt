@@ -7,7 +7,7 @@ ghost use Rattle.inside.specs.Spots.{spot, AllNear};
 ghost use Rattle.inside.specs.Meeting.{meets_of};
 
 // The point lies on the line, or the line crosses the point's level to its right, or neither.
-#[derive(Drop)]
+#[derive(Clone, Copy)]
 pub enum Meets {
     OnLine,
     Right,

@@ -10,7 +10,7 @@ use super::lines::{Meets, line_meets};
 use tables::{NodeId, wide};
 
 // Strictly inside by the even-odd rule, outside, or on one of the ring's lines.
-#[derive(Drop)]
+#[derive(Clone, Copy)]
 pub enum Stands {
     Inside,
     Outside,

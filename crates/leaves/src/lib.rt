@@ -13,7 +13,7 @@ use stars::is_active;
 use tables::{DirEdgeId, NodeId, twin_of, wide};
 
 // How many nodes are stacked, and how many edges were found.
-#[derive(Drop)]
+#[derive(Clone, Copy)]
 pub struct Progress {
     pub stacked: usize,
     pub found: usize,

@@ -8,7 +8,7 @@ ghost use Rattle.line_ids.specs.Seeking.{Seekable};
 use tables::{EdgeId, LIST_END, wide};
 
 // Whether the id is there, and the last place whose id is lower; LIST_END where none is.
-#[derive(Drop)]
+#[derive(Clone, Copy)]
 pub struct Sought {
     pub known: bool,
     pub behind: u16,

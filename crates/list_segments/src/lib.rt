@@ -12,7 +12,7 @@ use tables::{FLOATS, IDS, MARKS, NUMBERS, STARS};
 use written_output::{complain, write_front};
 
 // What was written for the input: a text of so many bytes, or nothing, since a read failed.
-#[derive(Drop)]
+#[derive(Clone, Copy)]
 enum Printed {
     Text(usize),
     Failed,

@@ -25,7 +25,7 @@ pub const MOST_BYTES: u64 = 0x4000_0000_0000_0000;
 
 // What one turn left: the counts and the stage, how many bytes it brought, how many are kept for the
 // next one, how many records were taken, the answer to them, and whether the input may have more.
-#[derive(Drop)]
+#[derive(Clone, Copy)]
 pub struct Turn {
     pub graph: PlanarGraph,
     pub got: usize,

@@ -27,7 +27,7 @@ pub struct Matches {
 // Where a line's id goes: whether the edge that was found has it, the place behind which it goes in
 // that edge's list, LIST_END where it goes first, and the lowest free place, MAX_PAIRS where there is
 // none.
-#[derive(Drop)]
+#[derive(Clone, Copy)]
 pub struct IdPlace {
     pub known: bool,
     pub behind: u16,

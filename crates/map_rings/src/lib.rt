@@ -12,7 +12,7 @@ use ring_entry::RingReply;
 use tables::PlanarGraph;
 
 // How many rings a cut graph has, and whether Euler's formula holds of them.
-#[derive(Drop)]
+#[derive(Clone, Copy)]
 pub struct RingMap {
     pub count: u16,
     pub euler: bool,

@@ -15,14 +15,14 @@ use prune_entry::PruneReply;
 use tables::{MAX_EDGES, PlanarGraph};
 
 // The counts and the stage after a step that marks edges, and how many it marked.
-#[derive(Drop)]
+#[derive(Clone, Copy)]
 struct Marked {
     graph: PlanarGraph,
     count: u16,
 }
 
 // The counts and the stage of a cut graph, and how many dangles and cut edges it has.
-#[derive(Drop)]
+#[derive(Clone, Copy)]
 pub struct CutMap {
     pub graph: PlanarGraph,
     pub dangles: u16,

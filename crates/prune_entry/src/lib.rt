@@ -14,14 +14,14 @@ use regions::prune_regions;
 use tables::{PlanarGraph, Refusal};
 
 // What pruning answers: how many dangles it listed, or a refusal.
-#[derive(Drop)]
+#[derive(Clone, Copy)]
 pub enum PruneReply {
     Dangles(u16),
     Refused(Refusal),
 }
 
 // The counts and the stage after the call, and its answer.
-#[derive(Drop)]
+#[derive(Clone, Copy)]
 pub struct Pruned {
     pub graph: PlanarGraph,
     pub reply: PruneReply,

@@ -13,7 +13,7 @@ use leaves::{Progress, first_active, stack_leaves, take_node};
 use tables::{MAX_NODES, NodeId, PlanarGraph, wide};
 
 // The graph in stage 2, and how many edges were taken away.
-#[derive(Drop)]
+#[derive(Clone, Copy)]
 pub struct PruneDone {
     pub graph: PlanarGraph,
     pub count: u16,

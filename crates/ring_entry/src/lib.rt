@@ -19,14 +19,14 @@ use tables::{PlanarGraph, Refusal};
 
 // What ring extraction answers: how many rings it listed, with V, E, cycles, C and the verdict, and
 // how many comparisons naming them took; or a refusal.
-#[derive(Drop)]
+#[derive(Clone, Copy)]
 pub enum RingReply {
     Rings(u16, Census, u16),
     Refused(Refusal),
 }
 
 // The counts and the stage after the call, and its answer.
-#[derive(Drop)]
+#[derive(Clone, Copy)]
 pub struct Ringed {
     pub graph: PlanarGraph,
     pub reply: RingReply,

@@ -13,14 +13,14 @@ use ring_taking::take_rings;
 use ring_writing::put_rings;
 
 // The bytes written, or why none were.
-#[derive(Drop)]
+#[derive(Clone, Copy)]
 pub enum RingsWritten {
     Written(usize),
     Refused(RingFileRefusal),
 }
 
 // The rings and the node numbers written into the lent lists, or why none were.
-#[derive(Drop)]
+#[derive(Clone, Copy)]
 pub enum RingsRead {
     Read(usize, usize),
     Refused(RingFileRefusal),

@@ -12,7 +12,7 @@ use rotation::{RotationStart, lesser};
 use tables::wide;
 
 // How one list of keys stands to another.
-#[derive(Drop)]
+#[derive(Clone, Copy)]
 pub enum KeysOrder {
     Less,
     Equal,
@@ -29,7 +29,7 @@ pub struct Turned {
 }
 
 // Where the least rotation of a ring's keys starts, and how many comparisons finding it took.
-#[derive(Drop)]
+#[derive(Clone, Copy)]
 pub struct Search {
     pub turn: u16,
     pub comparisons: usize,

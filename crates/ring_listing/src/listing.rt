@@ -11,7 +11,7 @@ use crate::successors::write_successors;
 use tables::{MAX_HALF_EDGES, PlanarGraph};
 
 // How many rings were listed, and the census.
-#[derive(Drop)]
+#[derive(Clone, Copy)]
 pub struct RingCount {
     pub count: u16,
     pub census: cycles::Census,

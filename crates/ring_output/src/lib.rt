@@ -18,7 +18,7 @@ use written_output::{complain, write_front};
 
 // What stands in the buffer for the input: a ring file of so many bytes, the line of a refusal, or
 // nothing, since a read failed.
-#[derive(Drop)]
+#[derive(Clone, Copy)]
 enum Output {
     File(usize),
     Refusal(usize),

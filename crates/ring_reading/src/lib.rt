@@ -18,7 +18,7 @@ const COUNT_AT: usize = 8;
 
 // Why a ring file, or a list of rings to be written, is refused: by document 02's numbers 9 to 11 of a
 // record's frame, 15 of a ring and 14 of lent lists that are too short.
-#[derive(Drop)]
+#[derive(Clone, Copy)]
 pub enum RingFileRefusal {
     Frame(FileRefusal),
     Ring,
@@ -38,7 +38,7 @@ pub fn ring_file_number(why: RingFileRefusal) -> u32
 
 // What a place of a file holds: a ring of so many nodes, a record of another kind by its bytes, or no
 // byte.
-#[derive(Drop)]
+#[derive(Clone, Copy)]
 pub enum RingFound {
     Ring(usize),
     Passed(usize),
@@ -76,7 +76,7 @@ pub fn read_ring(bytes: &[u8], at: usize) -> RingFound
 }
 
 // How many rings and nodes a whole file has, or its first refusal.
-#[derive(Drop)]
+#[derive(Clone, Copy)]
 pub enum Survey {
     Counted(usize, usize),
     Refused(RingFileRefusal),

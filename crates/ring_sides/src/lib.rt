@@ -7,13 +7,13 @@ ghost use Rattle.ring_sides.specs.Sides.{side_at_lem};
 use ring_tally::RingSide;
 
 // Why there is no side: the lists end before the place, or they hold a number there that says none.
-#[derive(Drop)]
+#[derive(Clone, Copy)]
 pub enum NoSide {
     PastLists,
     OtherNumber,
 }
 
-#[derive(Drop)]
+#[derive(Clone, Copy)]
 pub enum SideReply {
     Side(RingSide),
     Refused(NoSide),

@@ -13,7 +13,7 @@ use geometry::{Coord3D, Line3D};
 
 // What a place of the file holds. A record comes with how many bytes it takes: a segment, or one that is
 // passed over.
-#[derive(Drop)]
+#[derive(Clone, Copy)]
 pub enum Record {
     Segment(Line3D, usize),
     Passed(usize),

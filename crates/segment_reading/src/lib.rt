@@ -18,7 +18,7 @@ use taking::TakeReply;
 
 // What all turns together left: the counts and the stage, how many bytes came and how many records were
 // taken, the answer to them, and how the input ended.
-#[derive(Drop)]
+#[derive(Clone, Copy)]
 pub struct ReadOut {
     pub graph: PlanarGraph,
     pub bytes: u64,

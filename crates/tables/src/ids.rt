@@ -12,7 +12,7 @@ pub struct EdgeId(pub u16);
 #[derive(Clone, Copy)]
 pub struct DirEdgeId(pub u16);
 
-#[derive(Drop)]
+#[derive(Clone, Copy)]
 pub struct FaceId(pub u16);
 
 // The other half of a half-edge's edge: 2k and 2k + 1 are the halves of edge k.

@@ -17,14 +17,14 @@ pub enum TakeReply {
 }
 
 // What follows a record: the next one, behind so many bytes, or nothing, with the answer to all of them.
-#[derive(Drop)]
+#[derive(Clone, Copy)]
 pub enum Next {
     Onward(usize),
     Ended(TakeReply),
 }
 
 // The counts and the stage after one record, what follows it, and the lowest free place for a line id.
-#[derive(Drop)]
+#[derive(Clone, Copy)]
 pub struct Turn {
     pub graph: PlanarGraph,
     pub next: Next,
@@ -33,7 +33,7 @@ pub struct Turn {
 
 // The counts and the stage after many, how many were taken or passed over, which is the number from 0 of
 // one that is refused, and how many bytes these have.
-#[derive(Drop)]
+#[derive(Clone, Copy)]
 pub struct Taken {
     pub graph: PlanarGraph,
     pub count: usize,
