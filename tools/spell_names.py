@@ -132,8 +132,6 @@ def main(root="."):
             changed += 1
             with open(path, "w", encoding="utf-8") as file:
                 file.write(text)
-    with open("/tmp/spelled-names.txt", "w", encoding="utf-8") as file:
-        file.writelines(f"{a} {b}\n" for a, b in sorted(new.items()))
     print(f"{len(new)} names respelled in {changed} files; {len(left)} left: " + ", ".join(f"{a} ({b} is taken)" for a, b in left))
 
 

@@ -8,9 +8,9 @@ ghost use Rattle.lookup.specs.Indexed.{Indexed};
 ghost use Rattle.rules.specs.Limits.{limits};
 ghost use Rattle.tables.specs.Regions.{state_in};
 ghost use Rattle.taking.specs.Taking.{take_file_lem};
-ghost use Rattle.taking.specs.Answers.{takingOf};
+ghost use Rattle.taking.specs.Answers.{taking_of};
 ghost use Rattle.taking.specs.Taking.{take_file_lem};
-ghost use Rattle.taking.specs.Answers.{takingOf};
+ghost use Rattle.taking.specs.Answers.{taking_of};
 
 use record_intake::take_record;
 use tables::{MAX_PAIRS, PlanarGraph};
@@ -33,7 +33,7 @@ pub fn take_chained(
     requires ready { Ready limits (state_in limits graph floats.old numbers.old stars.old marks.old ids.old) }
     requires free_at { FreeAt limits (state_in limits graph floats.old numbers.old stars.old marks.old ids.old) used.now free }
     requires indexed { Indexed limits (state_in limits graph floats.old numbers.old stars.old marks.old ids.old) node_chains.old half_chains.old }
-    ensures { takingOf result floats.new numbers.new stars.new marks.new ids.new
+    ensures { taking_of result floats.new numbers.new stars.new marks.new ids.new
         ≡ take_file_lem limits bytes.now (state_in limits graph floats.old numbers.old stars.old marks.old ids.old) }
 {
     let mut current = graph;

@@ -39,9 +39,9 @@ no_halves source target star chains e h = record {
 
 -- ---- a graph's chains, as the searches ask for them
 
-module _ (line : Line3D) (s : State) (ready : Ready limits s) (nodeChains halfChains : List ℕ) (k : Indexed limits s nodeChains halfChains) where
+module _ (line : Line3D) (s : State) (ready : Ready limits s) (node_chains half_chains : List ℕ) (k : Indexed limits s node_chains half_chains) where
   -- of its nodes
-  pub nodes-chained : NodesChained s.nodes s.node_x s.node_y nodeChains
+  pub nodes-chained : NodesChained s.nodes s.node_x s.node_y node_chains
   nodes-chained =
       let q = searchable s ready in
       record {
@@ -52,7 +52,7 @@ module _ (line : Line3D) (s : State) (ready : Ready limits s) (nodeChains halfCh
       }
 
   -- of its half-edges
-  pub halves-chained : HalvesChained (2 * s.edges) s.source s.target s.star halfChains
+  pub halves-chained : HalvesChained (2 * s.edges) s.source s.target s.star half_chains
   halves-chained =
       let q = searchable s ready in
       record {
@@ -77,13 +77,13 @@ module _ (line : Line3D) (s : State) (ready : Ready limits s) (nodeChains halfCh
     ask = searchable t (ready_again line s ready o is)
 
     -- the nodes that were there are chained in the new tables, and there is room for the others
-    pub nodes_still : NodesChained s.nodes t.node_x t.node_y nodeChains × (s.nodes ≤ t.nodes) × (node_heads + t.nodes ≤ length nodeChains)
+    pub nodes_still : NodesChained s.nodes t.node_x t.node_y node_chains × (s.nodes ≤ t.nodes) × (node_heads + t.nodes ≤ length node_chains)
     nodes_still = (
       record {
         room_x = omega (arith, kept.nodes, ask.room_x);
         room_y = omega (arith, kept.nodes, ask.room_y);
         room = nodes-chained.room;
-        chained = chained_same node_heads (node_code_lem s.node_x s.node_y) (node_code_lem t.node_x t.node_y) s.nodes nodeChains (λ m h. ap key_code_lem (sym (kept.key m h))) k.nodes;
+        chained = chained_same node_heads (node_code_lem s.node_x s.node_y) (node_code_lem t.node_x t.node_y) s.nodes node_chains (λ m h. ap key_code_lem (sym (kept.key m h))) k.nodes;
       },
       kept.nodes,
       omega (arith, k.node_room, ask.few_nodes),
@@ -98,23 +98,23 @@ module _ (line : Line3D) (s : State) (ready : Ready limits s) (nodeChains halfCh
         ∙ ap (λ g. pair_code_lem (get_or t.source g 0) (get_or t.target g 0)) (sym (kept.star i h))
 
     -- the half-edges likewise
-    pub halves_still : HalvesChained (2 * s.edges) t.source t.target t.star halfChains × (s.edges ≤ t.edges) × (half_heads + 2 * t.edges ≤ length halfChains)
+    pub halves_still : HalvesChained (2 * s.edges) t.source t.target t.star half_chains × (s.edges ≤ t.edges) × (half_heads + 2 * t.edges ≤ length half_chains)
     halves_still = (
       record {
         room_star = omega (arith, kept.edges, ask.room_star);
         known = λ i h. ask.known i (omega (arith, kept.edges));
         room = halves-chained.room;
-        chained = chained_same half_heads (half_code_lem s.source s.target s.star) (half_code_lem t.source t.target t.star) (2 * s.edges) halfChains same_code k.halves;
+        chained = chained_same half_heads (half_code_lem s.source s.target s.star) (half_code_lem t.source t.target t.star) (2 * s.edges) half_chains same_code k.halves;
       },
       kept.edges,
       omega (arith, k.half_room, ask.few_edges),
     )
 
     -- with what is new chained too, all is
-    pub indexed_again : (nodeChains' halfChains' : List ℕ) → NodesChained t.nodes t.node_x t.node_y nodeChains'
-        → HalvesChained (2 * t.edges) t.source t.target t.star halfChains' → length nodeChains' ≡ length nodeChains → length halfChains' ≡ length halfChains
-        → Indexed limits t nodeChains' halfChains'
-    indexed_again nodeChains' halfChains' a b la lb = record {
+    pub indexed_again : (node_chains' half_chains' : List ℕ) → NodesChained t.nodes t.node_x t.node_y node_chains'
+        → HalvesChained (2 * t.edges) t.source t.target t.star half_chains' → length node_chains' ≡ length node_chains → length half_chains' ≡ length half_chains
+        → Indexed limits t node_chains' half_chains'
+    indexed_again node_chains' half_chains' a b la lb = record {
       nodes = a.chained;
       halves = b.chained;
       node_room = omega (arith, la, k.node_room);

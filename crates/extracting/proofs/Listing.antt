@@ -23,7 +23,7 @@ use Rattle.cycles.specs.Census.{census_of}
 use Rattle.ring_tally.specs.Keys.{keys_y}
 use Rattle.rings.specs.Listing.{RingRows}
 use Rattle.faces.specs.Numbers.{comparisons_at, Numberable}
-use Rattle.ring_listing.specs.Listing.{keysXOf, keysYOf, RingsListed}
+use Rattle.ring_listing.specs.Listing.{keys_x_of, keys_y_of, RingsListed}
 use Rattle.ring_listing.specs.declared.listing.RingCount.{RingCount}
 use Rattle.extracting.proofs.Numbering.{flat-few, comparisons-replied, numberable}
 use Rattle.extracting.proofs.Outcome.{arrangement-is, held-sane, total-is}
@@ -60,9 +60,9 @@ module _ {graph : PlanarGraph} {xs ys : List Float} {source : List ℕ} {marks :
 
       module _ (count : ℕ) (n : count ≡ listed.count) where
         -- the rings can be numbered
-        pub able : Numberable limits (take (2 * edges) halves) (keysXOf (take (2 * edges) halves) keys) (keysYOf (take (2 * edges) halves) keys) rows.first rows.size count source xs ys rows.area
+        pub able : Numberable limits (take (2 * edges) halves) (keys_x_of (take (2 * edges) halves) keys) (keys_y_of (take (2 * edges) halves) keys) rows.first rows.size count source xs ys rows.area
         able =
-            subst (λ m. Numberable limits (take (2 * edges) halves) (keysXOf (take (2 * edges) halves) keys) (keysYOf (take (2 * edges) halves) keys) rows.first rows.size m source xs ys rows.area) (sym n)
+            subst (λ m. Numberable limits (take (2 * edges) halves) (keys_x_of (take (2 * edges) halves) keys) (keys_y_of (take (2 * edges) halves) keys) rows.first rows.size m source xs ys rows.area) (sym n)
             (numberable limits held sense halves₀ rows₀ halves rows listed.count got.listed (2 * edges) whole fine_limits zeros keys got.keyed short)
 
         -- the comparisons made are those of naming the rings

@@ -29,9 +29,9 @@ use Rattle.rings.specs.Listing.{RingRows, Listed, ring_at}
 use Rattle.rings.proofs.Bounds.{side-half, areas-small}
 use Rattle.rings.proofs.Meaning.{area-at, ends-within, rows_within, ring_read, rings_read_lem, sides-exact}
 use Rattle.ring_keys.specs.Listed.{HalfOf}
-use Rattle.faces.specs.Numbers.{ring_at as ringFrom, rings_at, face_numbers, origins, rows_at, comparisons_at, Numberable}
+use Rattle.faces.specs.Numbers.{ring_at as ring_from, rings_at, face_numbers, origins, rows_at, comparisons_at, Numberable}
 use Rattle.faces.proofs.Filled.{ring_of-state}
-use Rattle.ring_listing.specs.Listing.{keysXOf, keysYOf}
+use Rattle.ring_listing.specs.Listing.{keys_x_of, keys_y_of}
 use Rattle.extracting.proofs.Starts.{rings-inside, rings_fit, ring-some, begins-apart}
 
 -- ---- the keys out of the two halves of a list
@@ -62,8 +62,8 @@ over_self l = ap (λ r. l ++ r) (drop_of_length-le l {i = length l} (omega arith
 
 -- ring i of the lists, as the rules have it
 ring-from : (s : State) (rows first size : List ℕ) (i : ℕ)
-    → ringFrom rows first size s.source s.node_x s.node_y i ≡ ring_of (point_of s) (node_key s) (arrangement s) (ring_at rows first size i)
-unfolding ringFrom
+    → ring_from rows first size s.source s.node_x s.node_y i ≡ ring_of (point_of s) (node_key s) (arrangement s) (ring_at rows first size i)
+unfolding ring_from
 ring-from s rows first size i = sym (ring_of-state s (ring_at rows first size i))
 
 -- its doubled area
@@ -185,7 +185,7 @@ module _ (l : Limits) (s : State) (sense : sound l s ≡ true) (halves₀ : List
           ∙ side-half z
 
       -- the record that `number_faces` asks for
-      pub numberable : Numberable l front (keysXOf front keys) (keysYOf front keys) rows.first rows.size count s.source s.node_x s.node_y rows.area
+      pub numberable : Numberable l front (keys_x_of front keys) (keys_y_of front keys) rows.first rows.size count s.source s.node_x s.node_y rows.area
       numberable =
           let ok = is-sound l s sense in
           let within = rows_within rings s.source s.node_x s.node_y halves₀ rows₀ halves rows count listed in

@@ -4,7 +4,7 @@ ghost use Rattle.lists.specs.Lists.{over};
 ghost use Rattle.rules.specs.Limits.{limits};
 ghost use Rattle.ring_tally.specs.Keys.{keys_y};
 ghost use Rattle.faces.specs.Numbers.{rings_at, face_numbers, comparisons_at, Numberable, Nameable};
-ghost use Rattle.ring_listing.specs.Listing.{keysXOf, keysYOf};
+ghost use Rattle.ring_listing.specs.Listing.{keys_x_of, keys_y_of};
 
 use ring_tally::KEYS_Y;
 
@@ -18,10 +18,10 @@ pub fn name_rings(
     areas: &[f64],
     ring_face: &mut [u16],
 ) -> usize
-    requires { (keys_y + length half_edges.now ≤ length keys.now) × Nameable limits half_edges.now (keysXOf half_edges.now keys.now) (keysYOf half_edges.now keys.now) firsts.now lengths.now count areas.now × (count ≤ length ring_face.old) }
-    ensures faces { (source : List ℕ) (X Y : List Float) → Numberable limits half_edges.now (keysXOf half_edges.now keys.now) (keysYOf half_edges.now keys.now) firsts.now lengths.now count source X Y areas.now
+    requires { (keys_y + length half_edges.now ≤ length keys.now) × Nameable limits half_edges.now (keys_x_of half_edges.now keys.now) (keys_y_of half_edges.now keys.now) firsts.now lengths.now count areas.now × (count ≤ length ring_face.old) }
+    ensures faces { (source : List ℕ) (X Y : List Float) → Numberable limits half_edges.now (keys_x_of half_edges.now keys.now) (keys_y_of half_edges.now keys.now) firsts.now lengths.now count source X Y areas.now
         → ring_face.new ≡ over (face_numbers (rings_at half_edges.now firsts.now lengths.now count source X Y)) ring_face.old }
-    ensures made { (source : List ℕ) (X Y : List Float) → Numberable limits half_edges.now (keysXOf half_edges.now keys.now) (keysYOf half_edges.now keys.now) firsts.now lengths.now count source X Y areas.now
+    ensures made { (source : List ℕ) (X Y : List Float) → Numberable limits half_edges.now (keys_x_of half_edges.now keys.now) (keys_y_of half_edges.now keys.now) firsts.now lengths.now count source X Y areas.now
         → result ≡ comparisons_at half_edges.now firsts.now lengths.now count source X Y }
 {
     let total = half_edges.len();

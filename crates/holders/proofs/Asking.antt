@@ -121,16 +121,16 @@ side_open (pos (suc n)) = sym (le-ltb (suc n) 0 (omega arith))
 side_open (negsuc n) = refl
 
 module _ (rs : List Ring) (n : ℕ) (X Y : List Float) (source half_edges_lem first size face side : List ℕ) (area : List Float) (count : ℕ)
-    (asked : Asked rs n X Y source half_edges_lem first size face side area count) (oldX oldY : List ℤ) (oldNodes : List ℕ) where
+    (asked : Asked rs n X Y source half_edges_lem first size face side area count) (old_x old_y : List ℤ) (old_nodes : List ℕ) where
   -- the tables of whole numbers, and the nodes where the half-edges start
   abbrev pub xs : List ℤ
-  xs = over (take n (map value X)) oldX
+  xs = over (take n (map value X)) old_x
 
   abbrev pub ys : List ℤ
-  ys = over (take n (map value Y)) oldY
+  ys = over (take n (map value Y)) old_y
 
   abbrev pub nodes : List ℕ
-  nodes = over (ring_nodes (origins source) half_edges_lem) oldNodes
+  nodes = over (ring_nodes (origins source) half_edges_lem) old_nodes
 
   abbrev pub drawn : Map
   drawn = map_of source xs ys half_edges_lem nodes first size face
@@ -138,10 +138,10 @@ module _ (rs : List Ring) (n : ℕ) (X Y : List Float) (source half_edges_lem fi
   -- a list with another in front is at least as long as either
   spotted : Spotted coordinate_bound n xs ys
   spotted = record {
-    in_xs = over-long-front value X oldX n asked.placed.in_xs;
-    in_ys = over-long-front value Y oldY n asked.placed.in_ys;
-    near_xs = written-within X oldX n asked.placed.in_xs coordinate_bound asked.placed.whole_x;
-    near_ys = written-within Y oldY n asked.placed.in_ys coordinate_bound asked.placed.whole_y;
+    in_xs = over-long-front value X old_x n asked.placed.in_xs;
+    in_ys = over-long-front value Y old_y n asked.placed.in_ys;
+    near_xs = written-within X old_x n asked.placed.in_xs coordinate_bound asked.placed.whole_x;
+    near_ys = written-within Y old_y n asked.placed.in_ys coordinate_bound asked.placed.whole_y;
   }
     where
       over-long-front : (f : Float → ℤ) (l : List Float) (old : List ℤ) (k : ℕ) → k ≤ length l → k ≤ length (over (take k (map f l)) old)
@@ -152,7 +152,7 @@ module _ (rs : List Ring) (n : ℕ) (X Y : List Float) (source half_edges_lem fi
   nodes-long : length half_edges_lem ≤ length nodes
   nodes-long =
       let row = ring_nodes (origins source) half_edges_lem in
-      omega (arith, length-append row (drop (length row) oldNodes), length-map half_edges_lem (λ (h : ℕ). get_or source h 0))
+      omega (arith, length-append row (drop (length row) old_nodes), length-map half_edges_lem (λ (h : ℕ). get_or source h 0))
 
   -- ring i is laid out
   laid : (i : ℕ) → i < length rs → Laid rs drawn n i
@@ -164,7 +164,7 @@ module _ (rs : List Ring) (n : ℕ) (X Y : List Float) (source half_edges_lem fi
         in_nodes = omega (arith, e.inside, nodes-long);
         some = omega (arith, e.sized, c.some);
         halves = e.holds;
-        nodes = part-map (λ h. get_or source h 0) half_edges_lem (drop (length (ring_nodes (origins source) half_edges_lem)) oldNodes) (get_or first i 0) (get_or size i 0) e.inside ∙ ap (ring_nodes (origins source)) e.holds;
+        nodes = part-map (λ h. get_or source h 0) half_edges_lem (drop (length (ring_nodes (origins source) half_edges_lem)) old_nodes) (get_or first i 0) (get_or size i 0) e.inside ∙ ap (ring_nodes (origins source)) e.holds;
         within = c.within;
         joined = c.joined;
         faced = e.faced;

@@ -9,9 +9,9 @@ ghost use Rattle.adding.specs.Outcomes.{Ready};
 ghost use Rattle.rules.specs.Limits.{limits};
 ghost use Rattle.tables.specs.Regions.{state_in};
 ghost use Rattle.taking.specs.Taking.{take_file_lem};
-ghost use Rattle.taking.specs.Answers.{takingOf};
+ghost use Rattle.taking.specs.Answers.{taking_of};
 ghost use Rattle.taking.specs.Taking.{take_file_lem};
-ghost use Rattle.taking.specs.Answers.{takingOf};
+ghost use Rattle.taking.specs.Answers.{taking_of};
 
 use chained_intake::take_chained;
 use tables::PlanarGraph;
@@ -34,7 +34,7 @@ pub fn take_records(
     ids: &mut [u32],
 ) -> Taken
     requires { Ready limits (state_in limits graph floats.old numbers.old stars.old marks.old ids.old) }
-    ensures { takingOf result floats.new numbers.new stars.new marks.new ids.new
+    ensures { taking_of result floats.new numbers.new stars.new marks.new ids.new
         ≡ take_file_lem limits bytes.now (state_in limits graph floats.old numbers.old stars.old marks.old ids.old) }
 {
     let used = placing::mark_lists(graph.edge_count, numbers);

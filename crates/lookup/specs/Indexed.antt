@@ -20,8 +20,8 @@ pub record HalvesChained (halves : ℕ) (source target star chains : List ℕ) :
   pub chained : Chained half_heads (half_code_lem source target star) halves chains
 
 -- all nodes and half-edges of a graph are chained, and the tables of chains have room for as many as there may be
-pub record Indexed (l : Limits) (s : State) (nodeChains halfChains : List ℕ) : Type 0 where
-  pub nodes : Chained node_heads (node_code_lem s.node_x s.node_y) s.nodes nodeChains
-  pub halves : Chained half_heads (half_code_lem s.source s.target s.star) (2 * s.edges) halfChains
-  pub node_room : node_heads + l.nodes ≤ length nodeChains
-  pub half_room : half_heads + 2 * l.edges ≤ length halfChains
+pub record Indexed (l : Limits) (s : State) (node_chains half_chains : List ℕ) : Type 0 where
+  pub nodes : Chained node_heads (node_code_lem s.node_x s.node_y) s.nodes node_chains
+  pub halves : Chained half_heads (half_code_lem s.source s.target s.star) (2 * s.edges) half_chains
+  pub node_room : node_heads + l.nodes ≤ length node_chains
+  pub half_room : half_heads + 2 * l.edges ≤ length half_chains

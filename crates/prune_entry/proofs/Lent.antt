@@ -20,7 +20,7 @@ use Rattle.prune_entry.specs.Given.{stars_in, SlicePrunable, pruned_in}
 module _ (l : Limits) (g : PlanarGraph) (numbers stars : List ℕ) (marks : List Bool) (given : SlicePrunable l g numbers stars marks)
     (offsets grouped : List ℕ) (groups : Grouped g.node_count (sources_in l numbers) (take (2 * g.edge_count) (star_table_in l stars)) offsets grouped)
     (degrees : List ℕ) (node_marks half_marks : List Bool)
-    (degreesAre : degrees ≡ degrees_in l stars) (nodeMarksAre : node_marks ≡ node_marks_in l marks) (halfMarksAre : half_marks ≡ half_marks_in l marks) where
+    (degrees_are : degrees ≡ degrees_in l stars) (node_marks_are : node_marks ≡ node_marks_in l marks) (half_marks_are : half_marks ≡ half_marks_in l marks) where
   -- the groups are the stars
   parts : (n : ℕ) → n < g.node_count → stars_in l g numbers stars n ≡ group_of offsets grouped n
   parts n q = sym (groups.stars n q)
@@ -29,9 +29,9 @@ module _ (l : Limits) (g : PlanarGraph) (numbers stars : List ℕ) (marks : List
   counted : Counted g.node_count g.edge_count (stars_in l g numbers stars) degrees node_marks half_marks
   counted =
       let c = given.counted in
-      let c = subst (λ ds. Counted g.node_count g.edge_count (stars_in l g numbers stars) ds (node_marks_in l marks) (half_marks_in l marks)) (sym degreesAre) c in
-      let c = subst (λ nm. Counted g.node_count g.edge_count (stars_in l g numbers stars) degrees nm (half_marks_in l marks)) (sym nodeMarksAre) c in
-      subst (λ hm. Counted g.node_count g.edge_count (stars_in l g numbers stars) degrees node_marks hm) (sym halfMarksAre) c
+      let c = subst (λ ds. Counted g.node_count g.edge_count (stars_in l g numbers stars) ds (node_marks_in l marks) (half_marks_in l marks)) (sym degrees_are) c in
+      let c = subst (λ nm. Counted g.node_count g.edge_count (stars_in l g numbers stars) degrees nm (half_marks_in l marks)) (sym node_marks_are) c in
+      subst (λ hm. Counted g.node_count g.edge_count (stars_in l g numbers stars) degrees node_marks hm) (sym half_marks_are) c
 
   pub lent_prunable : (out : List ℕ) → g.edge_count ≤ length out
       → Prunable l g.node_count g.edge_count offsets grouped (sources_in l numbers) degrees node_marks half_marks out
@@ -54,4 +54,4 @@ module _ (l : Limits) (g : PlanarGraph) (numbers stars : List ℕ) (marks : List
   lent-pruned =
       sym (prune_agree g.node_count g.edge_count (stars_in l g numbers stars) (group_of offsets grouped) (origin_in (sources_in l numbers)) parts given.starred
       degrees node_marks half_marks counted)
-      ∙ (λ i. prune (stars_in l g numbers stars) (origin_in (sources_in l numbers)) g.node_count g.edge_count (degreesAre i) (nodeMarksAre i) (halfMarksAre i))
+      ∙ (λ i. prune (stars_in l g numbers stars) (origin_in (sources_in l numbers)) g.node_count g.edge_count (degrees_are i) (node_marks_are i) (half_marks_are i))

@@ -11,12 +11,12 @@ use Rattle.rings.specs.Listing.{RingRows, RowsRoom, Listed}
 use Rattle.ring_listing.specs.declared.listing.RingCount.{RingCount}
 
 -- the keys of the half-edges of a list out of the front of both halves: the bits of x
-abbrev pub keysXOf : List ℕ → List ℕ → List ℕ
-keysXOf half_edges_lem keys = take (length half_edges_lem) keys
+abbrev pub keys_x_of : List ℕ → List ℕ → List ℕ
+keys_x_of half_edges_lem keys = take (length half_edges_lem) keys
 
 -- and those of y
-abbrev pub keysYOf : List ℕ → List ℕ → List ℕ
-keysYOf half_edges_lem keys = take (length half_edges_lem) (drop keys_y keys)
+abbrev pub keys_y_of : List ℕ → List ℕ → List ℕ
+keys_y_of half_edges_lem keys = take (length half_edges_lem) (drop keys_y keys)
 
 -- a table has the successors along the rings of an arrangement, whose maximal rings are counted
 pub record Successors (g : Arrangement) (next : List ℕ) (maximal : ℕ) : Type 0 where
@@ -30,7 +30,7 @@ pub record RingRoom (edges : ℕ) (half_edges_lem keys : List ℕ) (rows : RingR
   pub in_rows : RowsRoom (2 * edges) rows
 
 -- the rings of an arrangement are listed with their keys and counted, and its census is taken
-pub record RingsListed (g : Arrangement) (source : List ℕ) (xs ys : List Float) (halfEdges₀ keys₀ : List ℕ) (rows₀ : RingRows) (half_edges_lem keys : List ℕ) (rows : RingRows) (r : RingCount) : Type 0 where
-  pub listed : Listed (minimal_rings g) source xs ys halfEdges₀ rows₀ half_edges_lem rows r.count
+pub record RingsListed (g : Arrangement) (source : List ℕ) (xs ys : List Float) (half_edges₀ keys₀ : List ℕ) (rows₀ : RingRows) (half_edges_lem keys : List ℕ) (rows : RingRows) (r : RingCount) : Type 0 where
+  pub listed : Listed (minimal_rings g) source xs ys half_edges₀ rows₀ half_edges_lem rows r.count
   pub keyed : Keyed keys_y (flatten (minimal_rings g)) source xs ys keys₀ keys
   pub counted : census_of r.census ≡ census g

@@ -2,15 +2,15 @@
 use Rattle.std.specs.Prelude.{ℕ, Bool, true, false, List, pos, Float}
 use Rattle.std.specs.Float.{fin}
 use Rattle.std.specs.Float.Ieee.{lt}
-use Rattle.rules.specs.Ringing.{Side, Enclosed as enclosedSide, Open as open_side, Flat as flatSide, area_in, side_number_lem, side_area_lem}
+use Rattle.rules.specs.Ringing.{Side, Enclosed as enclosed_side, Open as open_side, Flat as flat_side, area_in, side_number_lem, side_area_lem}
 use Rattle.ring_tally.specs.declared.side.RingSide.{RingSide}
 use Rattle.ring_tally.specs.declared.side.RingSide.TheVariants.{Enclosed, Open, Flat}
 
 -- the rules' side that each case of the enum says
 abbrev pub side_of : RingSide → Side
-side_of (Enclosed a) = enclosedSide a
+side_of (Enclosed a) = enclosed_side a
 side_of (Open a) = open_side a
-side_of Flat = flatSide
+side_of Flat = flat_side
 
 -- above 0.0, below it, or neither
 abbrev pub side_where : Bool → Bool → Float → RingSide

@@ -73,9 +73,9 @@ stamped_at [] a seen = seen
 stamped_at (h ∷ hs) a seen = stamped_at hs a (set seen h a)
 
 -- what it leaves: the ring and its keys stand from `at` on, its half-edges are seen, and the answer is its tally
-pub record WalkedRing (f : ℕ → ℕ) (n start at : ℕ) (source : List ℕ) (xs ys : List Float) (seen₀ : List Bool) (halfEdges₀ keys₀ : List ℕ) (seen : List Bool) (half_edges_lem keys : List ℕ) (tally : Tally) : Type 0 where
+pub record WalkedRing (f : ℕ → ℕ) (n start at : ℕ) (source : List ℕ) (xs ys : List Float) (seen₀ : List Bool) (half_edges₀ keys₀ : List ℕ) (seen : List Bool) (half_edges_lem keys : List ℕ) (tally : Tally) : Type 0 where
   pub marks : seen ≡ stamped_at (cycle f n start) true seen₀
-  pub lists : half_edges_lem ≡ sets halfEdges₀ at (cycle f n start)
+  pub lists : half_edges_lem ≡ sets half_edges₀ at (cycle f n start)
   pub keyed : keys ≡ keys_put keys_y source xs ys keys₀ at (cycle f n start)
   pub tallied : tally ≡ tally_of source xs ys (cycle f n start)
 
@@ -103,8 +103,8 @@ pub record Listable (l : Limits) (edges : ℕ) (next source : List ℕ) (marks :
   pub in_rows : RowsRoom (length (table_rings edges next marks)) rows
 
 -- what it leaves: the half-edges ring by ring, and of each ring its first place, its length, its side and its area
-pub record Listed (rings : List (List ℕ)) (source : List ℕ) (xs ys : List Float) (halfEdges₀ : List ℕ) (rows₀ : RingRows) (half_edges_lem : List ℕ) (rows : RingRows) (count : ℕ) : Type 0 where
-  pub halves : half_edges_lem ≡ over (flatten rings) halfEdges₀
+pub record Listed (rings : List (List ℕ)) (source : List ℕ) (xs ys : List Float) (half_edges₀ : List ℕ) (rows₀ : RingRows) (half_edges_lem : List ℕ) (rows : RingRows) (count : ℕ) : Type 0 where
+  pub halves : half_edges_lem ≡ over (flatten rings) half_edges₀
   pub places : rows.first ≡ over (first_places 0 rings) rows₀.first
   pub sizes : rows.size ≡ over (map size_of rings) rows₀.size
   pub sides : rows.side ≡ over (map (number_in source xs ys) rings) rows₀.side

@@ -112,12 +112,12 @@ module _ (g k : Arrangement) (count : ℕ) (at points : ℕ → Point) (placed :
   -- a ring has the same test point inside
   holds_agree : (e o : Ring) → SameLines g k count e.half_edges_lem → SameLines g k count o.half_edges_lem → holds at g e o ≡ holds points k e o
   unfolding holds
-  holds_agree e o sameE sameO =
+  holds_agree e o same_e same_o =
       let passed = ring_nodes g e.half_edges_lem in
       let free = pick (λ n. not (member n passed)) (ring_nodes g o.half_edges_lem) in
-      tested_agree e.half_edges_lem sameE free (λ n m. nodes-low o.half_edges_lem sameO n (pick_in _ n (ring_nodes g o.half_edges_lem) m).0)
+      tested_agree e.half_edges_lem same_e free (λ n m. nodes-low o.half_edges_lem same_o n (pick_in _ n (ring_nodes g o.half_edges_lem) m).0)
       ∙ ap₂ (λ a b. let l = pick (λ n. not (member n a)) b in some_of_lem l && inside points k e.half_edges_lem (points (foremost_of (left_of points) 0 l)))
-      (nodes_agree e.half_edges_lem sameE) (nodes_agree o.half_edges_lem sameO)
+      (nodes_agree e.half_edges_lem same_e) (nodes_agree o.half_edges_lem same_o)
 
   module _ (rs : List Ring) (same : (i : ℕ) → i < length rs → SameLines g k count (ring_at rs i).half_edges_lem) where
     -- the same holder

@@ -35,7 +35,7 @@ used-length pairs x used used' within lx counts =
     counts
 
 module _ (pairs : ℕ) (small : pairs ≤ list_end) (t : Tracings) (line_id : List ℕ) (edges i x : ℕ) (ok : SoundLists pairs t line_id edges)
-    (lx : x < pairs) (free : count_of x (used_places pairs t edges) ≡ 0) (roomId : pairs ≤ length t.id) (roomNext : pairs ≤ length t.next) where
+    (lx : x < pairs) (free : count_of x (used_places pairs t edges) ≡ 0) (room_id : pairs ≤ length t.id) (room_next : pairs ≤ length t.next) where
   -- the places of each edge's list
   abbrev F : ℕ → List ℕ
   F = places_of pairs t
@@ -60,7 +60,7 @@ module _ (pairs : ℕ) (small : pairs ≤ list_end) (t : Tracings) (line_id : Li
 
   -- ---- a new edge
 
-  module _ (roomPlace : edges < length t.place) (roomLine : edges < length line_id) where
+  module _ (room_place : edges < length t.place) (room_line : edges < length line_id) where
     -- the tables with the first pair of the new edge
     abbrev begun : Tracings
     begun = start_list edges i x list_end t
@@ -68,7 +68,7 @@ module _ (pairs : ℕ) (small : pairs ≤ list_end) (t : Tracings) (line_id : Li
     -- the new edge's list is its one pair
     begun_relisting : Relisting pairs t begun line_id (set line_id edges i) edges (suc edges) edges x i F (x ∷ [])
     begun_relisting =
-        let here = get_or-set_same t.place edges x list_end roomPlace in
+        let here = get_or-set_same t.place edges x list_end room_place in
         let at = get_or-set_same t.id x i 0 (omega arith) in
         let L : ℕ → List ℕ = λ k. cond (eqb k edges) (x ∷ []) (F k) in
         record {
@@ -79,7 +79,7 @@ module _ (pairs : ℕ) (small : pairs ≤ list_end) (t : Tracings) (line_id : Li
           old_chain = λ k l d. chain_other t.next x list_end (get_or t.place k list_end) (F k) (out_of k l) (old.chain k l);
           new_chain = (here, (λ e. omega arith), get_or-set_same t.next x list_end list_end (omega arith));
           new_first = omega arith;
-          new_starts = ap (λ p. get_or (set t.id x i) p 0) here ∙ at ∙ sym (get_or-set_same line_id edges i 0 roomLine);
+          new_starts = ap (λ p. get_or (set t.id x i) p 0) here ∙ at ∙ sym (get_or-set_same line_id edges i 0 room_line);
           new_within = λ q m. let e : q ≡ x = bit_true q x (omega arith) in omega arith;
           new_rises = refl;
           counts = λ q.
@@ -112,7 +112,7 @@ module _ (pairs : ℕ) (small : pairs ≤ list_end) (t : Tracings) (line_id : Li
 
   -- ---- a new id behind edge k₀
 
-  module _ (k₀ : ℕ) (lk : k₀ < edges) (new : count_of i (ids_of pairs t k₀) ≡ 0) (roomPlace : edges ≤ length t.place) (roomLine : edges ≤ length line_id) where
+  module _ (k₀ : ℕ) (lk : k₀ < edges) (new : count_of i (ids_of pairs t k₀) ≡ 0) (room_place : edges ≤ length t.place) (room_line : edges ≤ length line_id) where
     -- the tables with the new pair
     abbrev more : Tracings
     more = enter_id_lem pairs k₀ i x t

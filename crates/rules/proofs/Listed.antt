@@ -114,21 +114,21 @@ at_one P k₀ L F new old k = by_eq k k₀
     (λ d. rw (ne_eqb k k₀ d) (old k d))
 
 -- what is to be shown where edge k₀ gets the list L, and id i is written at place x, which was free
-pub record Relisting (pairs : ℕ) (t t' : Tracings) (line_id lineId' : List ℕ) (edges edges' k₀ x i : ℕ) (F : ℕ → List ℕ) (L : List ℕ) : Type 0 where
+pub record Relisting (pairs : ℕ) (t t' : Tracings) (line_id line_id' : List ℕ) (edges edges' k₀ x i : ℕ) (F : ℕ → List ℕ) (L : List ℕ) : Type 0 where
   pub others : (k : ℕ) → k < edges' → (k ≡ k₀ → ⊥) → k < edges
   pub old_place : (k : ℕ) → (k ≡ k₀ → ⊥) → get_or t'.place k list_end ≡ get_or t.place k list_end
   pub old_id : t'.id ≡ set t.id x i
-  pub old_line : (k : ℕ) → (k ≡ k₀ → ⊥) → get_or lineId' k 0 ≡ get_or line_id k 0
+  pub old_line : (k : ℕ) → (k ≡ k₀ → ⊥) → get_or line_id' k 0 ≡ get_or line_id k 0
   pub old_chain : (k : ℕ) → k < edges → (k ≡ k₀ → ⊥) → Chain t'.next (get_or t.place k list_end) (F k)
   pub new_chain : Chain t'.next (get_or t'.place k₀ list_end) L
   pub new_first : get_or t'.place k₀ list_end < pairs
-  pub new_starts : get_or t'.id (get_or t'.place k₀ list_end) 0 ≡ get_or lineId' k₀ 0
+  pub new_starts : get_or t'.id (get_or t'.place k₀ list_end) 0 ≡ get_or line_id' k₀ 0
   pub new_within : (q : ℕ) → In q L → q < pairs
   pub new_rises : rising (map (λ q. get_or t'.id q 0) L) ≡ true
   pub counts : (q : ℕ) → count_of q (flatten (map (λ k. cond (eqb k k₀) L (F k)) (upto edges'))) ≡ bit (eqb q x) + count_of q (flatten (map F (upto edges)))
 
-module _ (pairs : ℕ) (t t' : Tracings) (line_id lineId' : List ℕ) (edges edges' k₀ x i : ℕ) (F : ℕ → List ℕ) (L : List ℕ) (small : pairs ≤ list_end)
-    (r : Listed pairs t line_id edges F) (free : count_of x (flatten (map F (upto edges))) ≡ 0) (m : Relisting pairs t t' line_id lineId' edges edges' k₀ x i F L) where
+module _ (pairs : ℕ) (t t' : Tracings) (line_id line_id' : List ℕ) (edges edges' k₀ x i : ℕ) (F : ℕ → List ℕ) (L : List ℕ) (small : pairs ≤ list_end)
+    (r : Listed pairs t line_id edges F) (free : count_of x (flatten (map F (upto edges))) ≡ 0) (m : Relisting pairs t t' line_id line_id' edges edges' k₀ x i F L) where
   -- the place is in no list
   not_in : (k q : ℕ) → k < edges → In q (F k) → q ≡ x → ⊥
   not_in k q l n e = omega (arith, count-part F edges k x l, ap (λ z. count_of z (F k)) e)
@@ -138,7 +138,7 @@ module _ (pairs : ℕ) (t t' : Tracings) (line_id lineId' : List ℕ) (edges edg
   old_id k q l n = ap (λ z. get_or z q 0) m.old_id ∙ get_or-set_other t.id x q i 0 (not_in k q l n)
 
   -- the edges have their lists again
-  pub relisted : Listed pairs t' lineId' edges' (λ k. cond (eqb k k₀) L (F k))
+  pub relisted : Listed pairs t' line_id' edges' (λ k. cond (eqb k k₀) L (F k))
   relisted = record {
     chain = at_one (λ k l. k < edges' → Chain t'.next (get_or t'.place k list_end) l) k₀ L F
         (λ h. m.new_chain)
@@ -146,7 +146,7 @@ module _ (pairs : ℕ) (t t' : Tracings) (line_id lineId' : List ℕ) (edges edg
     first = at_one (λ k l. k < edges' → get_or t'.place k list_end < pairs) k₀ L F
         (λ h. m.new_first)
         (λ k d h. subst (λ p. p < pairs) (sym (m.old_place k d)) (r.first k (m.others k h d)));
-    starts = at_one (λ k l. k < edges' → get_or t'.id (get_or t'.place k list_end) 0 ≡ get_or lineId' k 0) k₀ L F
+    starts = at_one (λ k l. k < edges' → get_or t'.id (get_or t'.place k list_end) 0 ≡ get_or line_id' k 0) k₀ L F
         (λ h. m.new_starts)
         (λ k d h.
         let o = m.others k h d in
@@ -168,13 +168,13 @@ module _ (pairs : ℕ) (t t' : Tracings) (line_id lineId' : List ℕ) (edges edg
   -- the places in use are one more
   pub relisted_counts : (q : ℕ) → count_of q (used_places pairs t' edges') ≡ bit (eqb q x) + count_of q (used_places pairs t edges)
   relisted_counts q =
-      ap (count_of q) (listed-used pairs small t' lineId' edges' (λ k. cond (eqb k k₀) L (F k)) relisted) ∙ m.counts q
+      ap (count_of q) (listed-used pairs small t' line_id' edges' (λ k. cond (eqb k k₀) L (F k)) relisted) ∙ m.counts q
       ∙ ap (λ u. bit (eqb q x) + count_of q u) (sym (listed-used pairs small t line_id edges F r))
 
   -- the other edges keep their places
   pub relisted_places : (k : ℕ) → k < edges' → (k ≡ k₀ → ⊥) → places_of pairs t' k ≡ places_of pairs t k
   relisted_places k h d =
-      listed-places pairs small t' lineId' edges' (λ j. cond (eqb j k₀) L (F j)) relisted k h
+      listed-places pairs small t' line_id' edges' (λ j. cond (eqb j k₀) L (F j)) relisted k h
       ∙ ap (λ b. cond b L (F k)) (ne_eqb k k₀ d)
       ∙ sym (listed-places pairs small t line_id edges F r k (m.others k h d))
 
@@ -191,5 +191,5 @@ module _ (pairs : ℕ) (t t' : Tracings) (line_id lineId' : List ℕ) (edges edg
   pub relisted_ids : k₀ < edges' → ids_of pairs t' k₀ ≡ map (λ q. get_or t'.id q 0) L
   relisted_ids h =
       ids_are pairs t' k₀
-      ∙ ap (map (λ q. get_or t'.id q 0)) (listed-places pairs small t' lineId' edges' (λ j. cond (eqb j k₀) L (F j)) relisted k₀ h
+      ∙ ap (map (λ q. get_or t'.id q 0)) (listed-places pairs small t' line_id' edges' (λ j. cond (eqb j k₀) L (F j)) relisted k₀ h
       ∙ ap (λ b. cond b L (F k₀)) (eq-eqb k₀ k₀ refl))

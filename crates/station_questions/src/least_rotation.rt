@@ -1,6 +1,6 @@
 // A least rotation, for a caller that hands over numbers and slices.
 ghost use Rattle.std.specs.Prelude.{◌≡◌};
-ghost use Rattle.rotation.specs.Answers.{rotationStart, startReply};
+ghost use Rattle.rotation.specs.Answers.{rotation_start, start_reply};
 ghost use Rattle.station_questions.specs.Questions.{told_by, told_start};
 
 use rotation::RotationStart;
@@ -16,7 +16,7 @@ pub extern "C" fn tukmiheb_minimum_rotation_index(
     ys: &[u64],
     reply: &mut [usize; ROTATION_LENGTH],
 ) -> u32
-    ensures { told_by result reply.new ≡ told_start reply.old (startReply (rotationStart xs.now ys.now)) }
+    ensures { told_by result reply.new ≡ told_start reply.old (start_reply (rotation_start xs.now ys.now)) }
 {
     match rotation::minimum_rotation_index(xs, ys) {
         RotationStart::LengthsDiffer => refusal_number(Refusal::ListTooShort),

@@ -188,7 +188,7 @@ pub fn is_sound(
     nodes_outgoing: &[u16],
 ) -> bool
     requires { Room limits nodes_x.now nodes_y.now nodes_degree.now nodes_marked.now dir_edges_src.now dir_edges_dst.now dir_edges_marked.now nodes_outgoing.now }
-    ensures { (nodes_z edgesLine : List Float) (edgesLineId : List ℕ) (tracings : Tracings) → result ≡ sound_graph limits (state_of graph nodes_x.now nodes_y.now nodes_z nodes_degree.now nodes_marked.now edgesLine edgesLineId dir_edges_src.now dir_edges_dst.now dir_edges_marked.now nodes_outgoing.now tracings) }
+    ensures { (nodes_z edges_line : List Float) (edges_line_id : List ℕ) (tracings : Tracings) → result ≡ sound_graph limits (state_of graph nodes_x.now nodes_y.now nodes_z nodes_degree.now nodes_marked.now edges_line edges_line_id dir_edges_src.now dir_edges_dst.now dir_edges_marked.now nodes_outgoing.now tracings) }
 {
     if !counts_within(graph) {
         return false;

@@ -6,21 +6,21 @@ use Rattle.tables.specs.declared.PlanarGraph.{PlanarGraph}
 
 -- the tables in the order in which every entry takes them
 abbrev pub state_of : PlanarGraph → List Float → List Float → List Float → List ℕ → List Bool → List Float → List ℕ → List ℕ → List ℕ → List Bool → List ℕ → Tracings → State
-state_of g nodes_x nodes_y nodes_z nodesDegree nodes_marked edgesLine edgesLineId dirEdgesSrc dirEdgesDst dirEdgesMarked nodesOutgoing tracings = record {
+state_of g nodes_x nodes_y nodes_z nodes_degree nodes_marked edges_line edges_line_id dir_edges_src dir_edges_dst dir_edges_marked nodes_outgoing tracings = record {
   nodes = g.node_count;
   edges = g.edge_count;
   stage = g.stage;
   node_x = nodes_x;
   node_y = nodes_y;
   node_z = nodes_z;
-  degree = nodesDegree;
+  degree = nodes_degree;
   node_mark = nodes_marked;
-  segment = edgesLine;
-  line_id = edgesLineId;
-  source = dirEdgesSrc;
-  target = dirEdgesDst;
-  half_mark = dirEdgesMarked;
-  star = nodesOutgoing;
+  segment = edges_line;
+  line_id = edges_line_id;
+  source = dir_edges_src;
+  target = dir_edges_dst;
+  half_mark = dir_edges_marked;
+  star = nodes_outgoing;
   tracings = tracings;
 }
 

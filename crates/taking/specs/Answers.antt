@@ -27,8 +27,8 @@ abbrev pub turn_of : Turn → List Float → List ℕ → List ℕ → List Bool
 turn_of r floats numbers stars marks ids = record { rest = rest_of r.next; state = state_in limits r.graph floats numbers stars marks ids }
 
 -- the same of many records, with how many were taken and their bytes
-abbrev pub takingOf : Taken → List Float → List ℕ → List ℕ → List Bool → List ℕ → Taking
-takingOf r floats numbers stars marks ids = record {
+abbrev pub taking_of : Taken → List Float → List ℕ → List ℕ → List Bool → List ℕ → Taking
+taking_of r floats numbers stars marks ids = record {
   reply = reply_of r.reply;
   count = r.count;
   bytes = r.bytes;

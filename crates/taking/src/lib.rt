@@ -2,7 +2,7 @@
 #![tactic(auto)]
 
 ghost use Rattle.std.specs.Prelude.{◌≡◌};
-ghost use Rattle.adding.specs.Outcomes.{reply_of as addReplyOf};
+ghost use Rattle.adding.specs.Outcomes.{reply_of as add_reply_of};
 ghost use Rattle.taking.specs.Taking.{after_adding_lem};
 ghost use Rattle.taking.specs.Answers.{rest_of};
 
@@ -43,7 +43,7 @@ pub struct Taken {
 
 // An added segment takes its record's bytes; a refused one ends the taking.
 pub fn after_adding(reply: AddReply, size: usize) -> Next
-    ensures { rest_of result ≡ after_adding_lem (addReplyOf reply) size }
+    ensures { rest_of result ≡ after_adding_lem (add_reply_of reply) size }
 {
     match reply {
         AddReply::New(_) => Next::Onward(size),

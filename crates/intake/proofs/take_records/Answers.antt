@@ -10,11 +10,11 @@ use Rattle.indexing.proofs.Places.{markable_in, free_made}
 use Rattle.intake.proofs.take_records.Goals as goal
 
 -- how many entries the tables of chains have
-abbrev nodeEntries : ℕ
-nodeEntries = node_heads + limits.nodes
+abbrev node_entries : ℕ
+node_entries = node_heads + limits.nodes
 
-abbrev halfEntries : ℕ
-halfEntries = half_heads + 2 * limits.edges
+abbrev half_entries : ℕ
+half_entries = half_heads + 2 * limits.edges
 
 pub mark_lists-used-requires : goal.mark_lists-used-requires
 mark_lists-used-requires c =
@@ -25,8 +25,8 @@ pub chain_all-requires : goal.chain_all-requires
 chain_all-requires c =
     let a = c.args in record {
       searchable_in = searchable_in_lem a.graph a.floats.now a.numbers.now a.stars.now a.marks.now a.ids.now c.requires;
-      node_chains_value = (zeros nodeEntries, zeros_long nodeEntries nodeEntries (omega arith));
-      half_chains_value = (zeros halfEntries, zeros_long halfEntries halfEntries (omega arith));
+      node_chains_value = (zeros node_entries, zeros_long node_entries node_entries (omega arith));
+      half_chains_value = (zeros half_entries, zeros_long half_entries half_entries (omega arith));
     }
 
 pub take_chained-requires : goal.take_chained-requires
@@ -38,7 +38,7 @@ take_chained-requires c =
       indexed = record {
         nodes = m.ensures.nodes.chained;
         halves = m.ensures.halves.chained;
-        node_room = still_long nodeEntries nodeEntries m.new.node_chains m.auto.node_chains (omega arith);
-        half_room = still_long halfEntries halfEntries m.new.half_chains m.auto.half_chains (omega arith);
+        node_room = still_long node_entries node_entries m.new.node_chains m.auto.node_chains (omega arith);
+        half_room = still_long half_entries half_entries m.new.half_chains m.auto.half_chains (omega arith);
       };
     }

@@ -10,7 +10,7 @@ use Rattle.rotation.specs.declared.RotationStart.{RotationStart}
 use Rattle.rotation.specs.declared.RotationStart.TheVariants.{At, LengthsDiffer}
 use Rattle.rotation.specs.Rotation.{keys_of, least_rotation_lem}
 use Rattle.rotation.specs.Steps.{comparisons}
-use Rattle.rotation.specs.Answers.{start_at, rotationStart}
+use Rattle.rotation.specs.Answers.{start_at, rotation_start}
 use Rattle.rotation.proofs.Least.{least-rotation}
 use Rattle.ring_keys.specs.declared.Search.{Search}
 use Rattle.ring_keys.specs.Listed.{part_of}
@@ -24,8 +24,8 @@ search-in (At i n) = record { turn = i; comparisons = n }
 search-in LengthsDiffer = record { turn = 0; comparisons = 0 }
 
 -- of two lists of one length it is where the least rotation starts, and the comparisons
-search_is : (xs ys : List ℕ) → length xs ≡ length ys → search-in (rotationStart xs ys) ≡ search_of (keys_of xs ys)
-unfolding rotationStart
+search_is : (xs ys : List ℕ) → length xs ≡ length ys → search-in (rotation_start xs ys) ≡ search_of (keys_of xs ys)
+unfolding rotation_start
 search_is xs ys e = ap (λ b. search-in (start_at b (least_rotation_lem (keys_of xs ys)) (comparisons (keys_of xs ys)))) (eq-eqb (length xs) (length ys) e)
 
 pub overflow_cast-turn : goal.overflow_cast-turn
@@ -43,7 +43,7 @@ overflow_cast-turn c =
           let same : length X ≡ length Y =
           length_part a.first a.size a.xs.now (omega (arith, w, c.requires.2)) ∙ sym (length_part a.first a.size a.ys.now (omega (arith, w, c.requires.2))) in
           ap search-in c.minimum_rotation_index.ensures
-          ∙ ap (λ (n : ℕ). search-in (rotationStart (take n (drop a.first a.xs.now)) (take n (drop a.first a.ys.now)))) e
+          ∙ ap (λ (n : ℕ). search-in (rotation_start (take n (drop a.first a.xs.now)) (take n (drop a.first a.ys.now)))) e
           ∙ search_is X Y same
           ∙ ap search_of (keys-part a.first a.size a.xs.now a.ys.now)),
       n,
@@ -60,7 +60,7 @@ returns-in-At c =
     let same : length X ≡ length Y =
     length_part a.first a.size a.xs.now (omega (arith, w, c.requires.2)) ∙ sym (length_part a.first a.size a.ys.now (omega (arith, w, c.requires.2))) in
     ap search-in c.minimum_rotation_index.ensures
-    ∙ ap (λ (n : ℕ). search-in (rotationStart (take n (drop a.first a.xs.now)) (take n (drop a.first a.ys.now)))) e
+    ∙ ap (λ (n : ℕ). search-in (rotation_start (take n (drop a.first a.xs.now)) (take n (drop a.first a.ys.now)))) e
     ∙ search_is X Y same
     ∙ ap search_of (keys-part a.first a.size a.xs.now a.ys.now))
 
@@ -74,7 +74,7 @@ returns-in-LengthsDiffer c =
     let same : length X ≡ length Y =
     length_part a.first a.size a.xs.now (omega (arith, w, c.requires.2)) ∙ sym (length_part a.first a.size a.ys.now (omega (arith, w, c.requires.2))) in
     ap search-in c.minimum_rotation_index.ensures
-    ∙ ap (λ (n : ℕ). search-in (rotationStart (take n (drop a.first a.xs.now)) (take n (drop a.first a.ys.now)))) e
+    ∙ ap (λ (n : ℕ). search-in (rotation_start (take n (drop a.first a.xs.now)) (take n (drop a.first a.ys.now)))) e
     ∙ search_is X Y same
     ∙ ap search_of (keys-part a.first a.size a.xs.now a.ys.now))
 
