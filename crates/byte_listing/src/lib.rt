@@ -32,7 +32,8 @@ pub fn empty_graph() -> PlanarGraph
 pub fn list_bytes(bytes: &[u8], out: &mut [u8]) -> Listed
     ensures { ListsBytes bytes.now out.old (listed_reply result) out.new }
 {
-    if out.len() < LISTING_ROOM {
+    let short = out.len() < LISTING_ROOM;
+    if short {
         return Listed::Refused(Refusal::ListTooShort);
     }
     let mut floats = [0.0f64; FLOATS];

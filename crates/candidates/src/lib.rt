@@ -84,7 +84,8 @@ pub fn list_enclosed(
     let mut n = 0;
     let mut i: u16 = 0;
     while i < count {
-        if ring_side[wide(i)] == ENCLOSED {
+        let enclosed = ring_side[wide(i)] == ENCLOSED;
+        if enclosed {
             put_candidate(
                 i,
                 n,

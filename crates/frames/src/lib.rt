@@ -127,7 +127,8 @@ pub fn read_frame(bytes: &[u8], at: usize) -> Frame
         return Frame::Refused(FileRefusal::Short);
     }
     let length = le32(bytes, at);
-    if left - LENGTH_BYTES < length as usize {
+    let missing = left - LENGTH_BYTES < length as usize;
+    if missing {
         return Frame::Refused(FileRefusal::Short);
     }
     if length < KIND_BYTES {

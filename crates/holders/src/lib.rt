@@ -39,6 +39,7 @@ fn write_nodes(half_edges: &[u16], dir_edges_src: &[u16], nodes: &mut [u16])
 
 // Lists the enclosed rings in ring order, with their boxes in a view, and answers how many there are.
 // As the map is, where a point lies to the right is its x, and no table has to be made for it.
+#[inline(never)]
 fn list_boxed(
     slope: u8,
     node_count: usize,
@@ -57,7 +58,8 @@ fn list_boxed(
     ensures { (rs : List Ring) → Boxable rs node_count nodes.now xs.now ys.now ring_first.now ring_length.now ring_side.now ring_area.now ring_count rings.old numbers.old
         → ((along : List ℤ) × Slanted slope xs.now ys.now node_count along × Candidates rs nodes.now along ys.now ring_first.now ring_length.now node_count ring_count rings.new numbers.new result) }
 {
-    if slope == PLAIN {
+    let plain = slope == PLAIN;
+    if plain {
         return list_enclosed(
             ring_count,
             node_count,
@@ -91,6 +93,7 @@ fn list_boxed(
 
 // A record for each open ring of a map in whole numbers: the enclosed rings get boxes and an order, so
 // that few of them are tested.
+#[inline(never)]
 fn holes_of_map(
     slope: u8,
     node_count: u16,

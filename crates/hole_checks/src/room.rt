@@ -18,7 +18,8 @@ fn open_rings(ring_side: &[u8], count: usize) -> usize
 {
     let mut total = 0;
     for i in 0..count {
-        if ring_side[i] == OPEN {
+        let open = ring_side[i] == OPEN;
+        if open {
             total += 1;
         }
     }

@@ -91,6 +91,7 @@ fn holder_of(
 }
 
 // A record for each open ring.
+#[inline(never)]
 pub fn list_holes(
     ring_count: u16,
     ring_side: &[u8],
@@ -126,7 +127,8 @@ pub fn list_holes(
     let mut i: u16 = 0;
     while i < ring_count {
         let ring = wide(i);
-        if ring_side[ring] == OPEN {
+        let open = ring_side[ring] == OPEN;
+        if open {
             let holder = holder_of(
                 i,
                 slope,

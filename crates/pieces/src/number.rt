@@ -26,7 +26,8 @@ fn fill_seeds(
     let mut i = 0;
     while i < seeds {
         let seed = NodeId(order[i]);
-        if pieces[wide(seed.0)] == 0 {
+        let untouched = pieces[wide(seed.0)] == 0;
+        if untouched {
             count += 1;
             fill_piece(
                 offsets,

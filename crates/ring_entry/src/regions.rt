@@ -12,6 +12,7 @@ use tables::{
 };
 
 // The stars are grouped by node, and the rings written into the lists. Line ids are not read.
+#[inline(never)]
 pub fn extract_regions(
     graph: PlanarGraph,
     floats: &[f64],

@@ -26,7 +26,8 @@ pub enum Record {
 pub fn float_of(bits: u64) -> f64
     ensures { result ≡ of_bits binary64 bits }
 {
-    if 0x7ff0_0000_0000_0000 < bits % 0x8000_0000_0000_0000 {
+    let nan_pattern = 0x7ff0_0000_0000_0000 < bits % 0x8000_0000_0000_0000;
+    if nan_pattern {
         return 0.0 / 0.0;
     }
     f64::from_bits(bits)

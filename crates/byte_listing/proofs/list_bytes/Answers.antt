@@ -20,8 +20,8 @@ use Rattle.byte_listing.proofs.list_bytes.Goals as goal
 begins : (g : PlanarGraph) → g ≡ record { node_count = 0; edge_count = 0; stage = 0 } → blank g ≡ empty_graph_lem limits
 begins g e = ap blank e ∙ blank_empty
 
-pub returns-then-out-lt-LISTING_ROOM : goal.returns-then-out-lt-LISTING_ROOM
-returns-then-out-lt-LISTING_ROOM c = rw (lt-ltb (length c.args.out.now) (listing_room limits) c.if-out-lt-LISTING_ROOM.true) refl
+pub returns-then-short : goal.returns-then-short
+returns-then-short c = rw (lt-ltb (length c.args.out.now) (listing_room limits) c.if-short.true) refl
 
 pub take_records-taken-requires : goal.take_records-taken-requires
 unfolding of_bits
@@ -32,7 +32,7 @@ unfolding of_bits
 put_taken-size-requires c =
     let b = c.args.bytes.now in
     let e = c.take_records-taken.ensures ∙ ap (take_file_lem limits b) (begins _ c.empty_graph.ensures) in
-    ready_due _ c.args.out.now (subst (λ t. Ready limits t.state) (sym e) (file_ready b (empty_graph_lem limits) empty_ready)) (omega (arith, c.if-out-lt-LISTING_ROOM.false))
+    ready_due _ c.args.out.now (subst (λ t. Ready limits t.state) (sym e) (file_ready b (empty_graph_lem limits) empty_ready)) (omega (arith, c.if-short.false))
 
 pub returns : goal.returns
 unfolding of_bits
@@ -42,4 +42,4 @@ returns c =
     let e = c.take_records-taken.ensures ∙ ap (take_file_lem limits b) (begins _ c.empty_graph.ensures) in
     put_lists (file_text limits b) c.args.out.now t.new.out t.result
     (subst (λ x. Put 0 x c.args.out.now t.new.out t.result) (ap (λ x. text_of x.reply x.count x.state) e) t.ensures)
-    (omega (arith, c.if-out-lt-LISTING_ROOM.false))
+    (omega (arith, c.if-short.false))

@@ -20,10 +20,10 @@ returns-then-left-lt-LENGTH_BYTES c =
       skipped = tt;
     }
 
-pub returns-then-left-length : goal.returns-then-left-length
-returns-then-left-length c =
+pub returns-then-missing : goal.returns-then-missing
+returns-then-missing c =
     record {
-      frame = frame-short (drop c.args.at c.args.bytes.now) (omega (arith, (length-drop c.args.at c.args.bytes.now), c.if-left-lt-LENGTH_BYTES.false)) (omega (arith, (length-drop c.args.at c.args.bytes.now), c.if-left-lt-LENGTH_BYTES.false, c.le32-length.ensures, c.if-left-length.true));
+      frame = frame-short (drop c.args.at c.args.bytes.now) (omega (arith, (length-drop c.args.at c.args.bytes.now), c.if-left-lt-LENGTH_BYTES.false)) (omega (arith, (length-drop c.args.at c.args.bytes.now), c.if-left-lt-LENGTH_BYTES.false, c.le32-length.ensures, c.if-missing.true));
       skipped = tt;
     }
 
@@ -31,7 +31,7 @@ pub returns-then-length-lt-KIND_BYTES : goal.returns-then-length-lt-KIND_BYTES
 returns-then-length-lt-KIND_BYTES c =
     record {
       frame = whole_none c.le32-length.result (field (drop c.args.at c.args.bytes.now) 4 2) c.if-length-lt-KIND_BYTES.true ∙ (ap (λ n. whole_frame_lem n (field (drop c.args.at c.args.bytes.now) 4 2)) c.le32-length.ensures
-          ∙ frame_whole (drop c.args.at c.args.bytes.now) (omega (arith, (length-drop c.args.at c.args.bytes.now), c.if-left-lt-LENGTH_BYTES.false, c.le32-length.ensures, c.if-left-length.false)));
+          ∙ frame_whole (drop c.args.at c.args.bytes.now) (omega (arith, (length-drop c.args.at c.args.bytes.now), c.if-left-lt-LENGTH_BYTES.false, c.le32-length.ensures, c.if-missing.false)));
       skipped = tt;
     }
 
@@ -39,6 +39,6 @@ pub returns : goal.returns
 returns c =
     let a = c.args in record {
       frame = c.whole_frame.ensures.frame ∙ ap (whole_frame_lem c.le32-length.result) (c.le16.ensures ∙ kind_at a.bytes.now a.at) ∙ (ap (λ n. whole_frame_lem n (field (drop c.args.at c.args.bytes.now) 4 2)) c.le32-length.ensures
-          ∙ frame_whole (drop c.args.at c.args.bytes.now) (omega (arith, (length-drop c.args.at c.args.bytes.now), c.if-left-lt-LENGTH_BYTES.false, c.le32-length.ensures, c.if-left-length.false)));
+          ∙ frame_whole (drop c.args.at c.args.bytes.now) (omega (arith, (length-drop c.args.at c.args.bytes.now), c.if-left-lt-LENGTH_BYTES.false, c.le32-length.ensures, c.if-missing.false)));
       skipped = c.whole_frame.ensures.skipped;
     }

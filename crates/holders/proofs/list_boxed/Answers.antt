@@ -14,10 +14,10 @@ use Rattle.holders.proofs.list_boxed.Goals.{After-write_along}
 pub list_enclosed-requires : goal.list_enclosed-requires
 list_enclosed-requires c = let p = c.requires in (p.0, p.1.listable)
 
-pub returns-then-slope-eq-PLAIN : goal.returns-then-slope-eq-PLAIN
-returns-then-slope-eq-PLAIN c =
+pub returns-then-plain : goal.returns-then-plain
+returns-then-plain c =
     let a = c.args in
-    λ rs b. (a.xs.now, plain-slanted a.slope a.xs.now a.ys.now a.node_count c.if-slope-eq-PLAIN.true, c.list_enclosed.ensures rs b.listable)
+    λ rs b. (a.xs.now, plain-slanted a.slope a.xs.now a.ys.now a.node_count c.if-plain.true, c.list_enclosed.ensures rs b.listable)
 
 -- ---- in a slanted view
 

@@ -14,7 +14,7 @@ use Rattle.ring_lists.specs.Shown.{HalfOf}
 use Rattle.holding.specs.Maps.{map_of}
 use Rattle.hole_listing.proofs.ListingLaws.{Listed, listed-few, listed-all, listed-room, gone_none, gone_other, gone_one}
 use Rattle.hole_listing.proofs.list_holes.Goals as goal
-use Rattle.hole_listing.proofs.list_holes.Goals.{After-wide-ring, Then-ring_side-ring-eq-OPEN, then-ring_side-ring-eq-OPEN, else-ring_side-ring-eq-OPEN}
+use Rattle.hole_listing.proofs.list_holes.Goals.{After-wide-ring, Then-open, then-open, else-open}
 
 pub loop-i-init : goal.loop-i-init
 loop-i-init c = gone_none refl
@@ -33,10 +33,10 @@ halved : (c : After-wide-ring) → let l = c.args.ring_area.now in (z : ℤ) →
 halved c z = subst (λ n. HalfOf (get_or c.args.ring_area.now n nan) z) (sym c.wide-ring.ensures)
 
 -- there is room for an open ring's record
-room : (c : Then-ring_side-ring-eq-OPEN) → c.loop-i.k < shaped_rings limits
+room : (c : Then-open) → c.loop-i.k < shaped_rings limits
 room c =
-    let k = (goal.at.Then-ring_side-ring-eq-OPEN c).After-wide-ring in
-    listed-room c.requires.by_index.3 (listed k) c.loop-i-test.true (eq-eqb _ 2 (tested k ∙ c.if-ring_side-ring-eq-OPEN.true))
+    let k = (goal.at.Then-open c).After-wide-ring in
+    listed-room c.requires.by_index.3 (listed k) c.loop-i-test.true (eq-eqb _ 2 (tested k ∙ c.if-open.true))
 
 pub bounds-ring_side-ring : goal.bounds-ring_side-ring
 bounds-ring_side-ring c = omega (arith, c.wide-ring.ensures, c.loop-i-test.true, c.requires.by_index.3.in_side)
@@ -63,30 +63,30 @@ doubled_area-doubled-requires c =
     ((ring_at g.0 i).doubled, halved (goal.at.doubled_area-doubled-requires c).After-wide-ring (ring_at g.0 i).doubled (g.3.halved i c.loop-i-test.true))
 
 pub offset_bounds-list-k : goal.offset_bounds-list-k
-offset_bounds-list-k c = omega (arith, room (goal.at.offset_bounds-list-k c).Then-ring_side-ring-eq-OPEN)
+offset_bounds-list-k c = omega (arith, room (goal.at.offset_bounds-list-k c).Then-open)
 
 pub bounds-list-k : goal.bounds-list-k
-bounds-list-k c = room (goal.at.bounds-list-k c).Then-ring_side-ring-eq-OPEN
+bounds-list-k c = room (goal.at.bounds-list-k c).Then-open
 
 pub overflow_add-k : goal.overflow_add-k
-overflow_add-k c = omega (arith, room (goal.at.overflow_add-k c).Then-ring_side-ring-eq-OPEN)
+overflow_add-k c = omega (arith, room (goal.at.overflow_add-k c).Then-open)
 
 pub loop-i-preserved : goal.loop-i-preserved
 loop-i-preserved c =
     let k = (goal.at.loop-i-preserved c).After-wide-ring in
     let q = c.loop-i in
-    elim c.if-ring_side-ring-eq-OPEN.branch [
-      | then-ring_side-ring-eq-OPEN w ↦
+    elim c.if-open.branch [
+      | then-open w ↦
           let found = w.holder_of-holder in
           let area = w.doubled_area-doubled in
           let same : length found.new.stamps ≡ length q.stamps = omega arith in
           let doubled = to_z w64 (of_z w64 area.result) in
           let exact : doubled ≡ area.result = to_z-of_z w64 area.result (record { sfits = area.type_inv }) in
           rw (w.list-is, w.stamps-is, w.k-is)
-          (gone_one c.loop-i-test.true q.invariant (eq-eqb _ 2 (tested k ∙ w.if-ring_side-ring-eq-OPEN.true)) found.result doubled found.new.stamps same found.ensures.holder
+          (gone_one c.loop-i-test.true q.invariant (eq-eqb _ 2 (tested k ∙ w.if-open.true)) found.result doubled found.new.stamps same found.ensures.holder
           (λ z h. exact ∙ area.ensures z (halved k z h)) found.ensures.stamps)
-      | else-ring_side-ring-eq-OPEN w ↦
-          rw (w.list-is, w.stamps-is, w.k-is) (gone_other c.loop-i-test.true q.invariant (ne_eqb _ 2 (λ e. w.if-ring_side-ring-eq-OPEN.false (sym (tested k) ∙ e))))
+      | else-open w ↦
+          rw (w.list-is, w.stamps-is, w.k-is) (gone_other c.loop-i-test.true q.invariant (ne_eqb _ 2 (λ e. w.if-open.false (sym (tested k) ∙ e))))
     ]
 
 pub returns : goal.returns

@@ -8,8 +8,8 @@ quotient : div binary64 (of_bits binary64 0) (of_bits binary64 0) ≡ nan
 unfolding div of_bits
 quotient = refl
 
-pub returns-then-bits-gt9218868437227405312 : goal.returns-then-bits-gt9218868437227405312
-returns-then-bits-gt9218868437227405312 c = quotient ∙ above_infinity c.args.bits c.if-bits-gt9218868437227405312.true
+pub returns-then-nan_pattern : goal.returns-then-nan_pattern
+returns-then-nan_pattern c = quotient ∙ above_infinity c.args.bits c.if-nan_pattern.true
 
 pub float_from_bits-result : goal.float_from_bits-result
-float_from_bits-result c = no_nan_pattern c.args.bits c.if-bits-gt9218868437227405312.false
+float_from_bits-result c = no_nan_pattern c.args.bits c.if-nan_pattern.false

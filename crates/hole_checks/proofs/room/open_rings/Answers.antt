@@ -6,7 +6,7 @@ use Rattle.lists.specs.Lists.{bit}
 use Rattle.hole_checks.specs.Open.{open_side, open_among}
 use Rattle.hole_checks.proofs.Opening.{open_more}
 use Rattle.hole_checks.proofs.room.open_rings.Goals as goal
-use Rattle.hole_checks.proofs.room.open_rings.Goals.{then-ring_side-i-eq-OPEN, else-ring_side-i-eq-OPEN}
+use Rattle.hole_checks.proofs.room.open_rings.Goals.{then-open, else-open}
 
 pub loop-i-init : goal.loop-i-init
 loop-i-init c = (omega arith, omega arith, refl)
@@ -16,9 +16,9 @@ loop-i-preserved c =
     let sides = c.args.ring_side.now in
     let q = c.loop-i in
     let more = open_more sides q.i in
-    elim c.if-ring_side-i-eq-OPEN.branch [
-      | then-ring_side-i-eq-OPEN w ↦ (omega arith, omega arith, omega (arith, more, ap bit (eq-eqb (get_or sides q.i 0) open_side w.if-ring_side-i-eq-OPEN.true)))
-      | else-ring_side-i-eq-OPEN w ↦ (omega arith, omega arith, omega (arith, more, ap bit (ne_eqb (get_or sides q.i 0) open_side w.if-ring_side-i-eq-OPEN.false)))
+    elim c.if-open.branch [
+      | then-open w ↦ (omega arith, omega arith, omega (arith, more, ap bit (eq-eqb (get_or sides q.i 0) open_side w.if-open.true)))
+      | else-open w ↦ (omega arith, omega arith, omega (arith, more, ap bit (ne_eqb (get_or sides q.i 0) open_side w.if-open.false)))
     ]
 
 pub returns : goal.returns
