@@ -27,7 +27,7 @@ pub const HALF_EDGE_LIMIT: usize = 2 * EDGE_LIMIT;
 pub const SEGMENT_FLOATS: usize = 6;
 
 /// The stack, in bytes, that a thread should have for any call: 256 KiB with these limits. It is no proved bound. The frames
-/// of ring extraction, which needs most, add up to 212 KiB; every call was made on full tables with this.
+/// of ring extraction, which needs most, add up to 235 KiB; every call was made on full tables with this.
 pub const STACK: usize = 128 * EDGE_LIMIT;
 
 // ---- floats: x, y and z of the nodes, then segments

@@ -39,6 +39,7 @@ fn write_nodes(half_edges: &[u16], dir_edges_src: &[u16], nodes: &mut [u16])
 
 // Lists the enclosed rings in ring order, with their boxes in a view, and answers how many there are.
 // As the map is, where a point lies to the right is its x, and no table has to be made for it.
+// Not inlined, so that its tables have a frame of their own (docs/DECISIONS.md, the stack of a call).
 #[inline(never)]
 fn list_boxed(
     slope: u8,
@@ -93,6 +94,7 @@ fn list_boxed(
 
 // A record for each open ring of a map in whole numbers: the enclosed rings get boxes and an order, so
 // that few of them are tested.
+// Not inlined, so that its tables have a frame of their own (docs/DECISIONS.md, the stack of a call).
 #[inline(never)]
 fn holes_of_map(
     slope: u8,

@@ -91,6 +91,7 @@ fn holder_of(
 }
 
 // A record for each open ring.
+// Not inlined, so that its tables have a frame of their own (docs/DECISIONS.md, the stack of a call).
 #[inline(never)]
 pub fn list_holes(
     ring_count: u16,

@@ -53,7 +53,7 @@ pub fn ring_map(
     );
     let reply = done.reply;
     match reply {
-        RingReply::Rings(count, census, _) => RingMap {
+        RingReply::Rings(count, census, comparisons) => RingMap {
             count,
             euler: census.verdict,
         },

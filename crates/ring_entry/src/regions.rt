@@ -12,6 +12,7 @@ use tables::{
 };
 
 // The stars are grouped by node, and the rings written into the lists. Line ids are not read.
+// Not inlined, so that its tables have a frame of their own (docs/DECISIONS.md, the stack of a call).
 #[inline(never)]
 pub fn extract_regions(
     graph: PlanarGraph,

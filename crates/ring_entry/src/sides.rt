@@ -12,6 +12,7 @@ use tables::{
 
 // The stars are grouped by node, the sides of the rings written, and the rings counted. Nothing else that
 // is lent is written, and no face is named.
+// Not inlined, so that its tables have a frame of their own (docs/DECISIONS.md, the stack of a call).
 #[inline(never)]
 pub fn sides_of_regions(
     graph: PlanarGraph,

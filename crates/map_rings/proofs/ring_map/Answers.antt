@@ -26,7 +26,7 @@ returns-in-Rings c =
     let s = held (goal.at.returns-in-Rings c).Start in
     let x = c.extract_without_holes-done in
     let v = c.in-Rings in
-    let answer : Ringing = record { count = v.count; census = census_of v.census; comparisons = v.field-2 } in
+    let answer : Ringing = record { count = v.count; census = census_of v.census; comparisons = v.comparisons } in
     let done = ap ring_reply v.is in
     record {
       shown = extracted-shown s _ _ _ _ answer x.ensures done (x.auto.half_edges ∙ c.requires.1.half_edges_lem) (x.auto.ring_first ∙ c.requires.1.first);
