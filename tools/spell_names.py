@@ -18,6 +18,10 @@ import sys
 DECLARES = re.compile(r"\s*(?:(?:abbrev|opaque|unfoldable|pub|instance)\s+)*(?:(record|data)\s+)?([^\s:(){},.=|]+)(?:\s+\{[^}]*\}|\s+\([^)]*\))*\s*:(?:\s|$)")
 TOKEN = re.compile(r"[^\s(){}\[\],;:.=|@`«»\"!?]+")
 RESERVED = {"use", "mod", "open", "module", "let", "λ", "where", "in"}
+# definitions and parameters that DECLARES does not find, with what may stand behind them
+HIDDEN = re.compile(r"(addReplyOf|degreesAre|dirEdges(?:Dst|Marked|Src)|edgesLine|edgesLineId|enclosedSide|flatSide|half(?:Chains|Edges|Entries|MarksAre)"
+                    r"|in[LM]|keys[XY]Of|lineId|node(?:Chains|Entries|MarksAre)|nodes(?:Degree|Outgoing)|old(?:Nodes|X|Y)|ringFrom|room(?:Id|Line|M|Next|Place)|roomyIs"
+                    r"|rotationStart|same[EO]|startReply|takingOf)(['₀]*)$")
 # what the library calls its functions in the names of laws
 LIBRARY = set("length append take drop set map reverse get_or cond eqb ltb leb min max sum suc zero add mul sub div mod pow cons nil ap sym not if fst snd replicate flatten filter head tail".split())
 ANSWERS = ("Proof.antt", "Answers.antt", "Invariants.antt")
@@ -115,6 +119,9 @@ def respelled(text, new, answers):
     """answers: in a file of a function's answers a dashed word behind a dot is a step of the code and no name of ours."""
     def word(m):
         it = m[0]
+        hidden = HIDDEN.match(it)
+        if hidden:
+            return re.sub(r"(?<=[a-z])([A-Z])", r"_\1", hidden[1].replace("Of", "_of")).lower() + hidden[2]
         if it not in new or (answers and "-" in it and m.start() and text[m.start() - 1] == "."):
             return it
         return new[it]
