@@ -19,7 +19,7 @@ DECLARES = re.compile(r"\s*(?:(?:abbrev|opaque|unfoldable|pub|instance)\s+)*(?:(
 TOKEN = re.compile(r"[^\s(){}\[\],;:.=|@`«»\"!?]+")
 RESERVED = {"use", "mod", "open", "module", "let", "λ", "where", "in"}
 # definitions and parameters that DECLARES does not find, with what may stand behind them
-HIDDEN = re.compile(r"(addReplyOf|degreesAre|dirEdges(?:Dst|Marked|Src)|edgesLine|edgesLineId|enclosedSide|flatSide|half(?:Chains|Edges|Entries|MarksAre)"
+HIDDEN = re.compile(r"(addReplyOf|degreesAre|dirEdges(?:Dst|Marked|Src)|edgesLine|edgesLineId|enclosedSide|flatSide|half(?:Chains|Edges(?=₀)|Entries|MarksAre)"
                     r"|in[LM]|keys[XY]Of|lineId|node(?:Chains|Entries|MarksAre)|nodes(?:Degree|Outgoing)|old(?:Nodes|X|Y)|ringFrom|room(?:Id|Line|M|Next|Place)|roomyIs"
                     r"|rotationStart|same[EO]|startReply|takingOf)(['₀]*)$")
 # what the library calls its functions in the names of laws
