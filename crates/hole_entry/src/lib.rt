@@ -35,7 +35,7 @@ pub struct Ringed {
 
 // What the core hands to the entry: the holes to write, and the answer. The records come first, so that
 // no padding is copied with them: a copy between places that are not aligned to each other is slow.
-#[derive(Drop)]
+#[derive(Clone, Copy)]
 pub struct Made {
     pub list: [Hole; MAX_SHAPED],
     pub count: usize,

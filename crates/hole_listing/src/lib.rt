@@ -25,7 +25,7 @@ use views::along_of;
 const OUTSIDE: u16 = 65535;
 
 // Records, and how many of them are holes.
-#[derive(Drop)]
+#[derive(Clone, Copy)]
 pub struct HoleList {
     pub list: [Hole; MAX_SHAPED],
     pub count: usize,

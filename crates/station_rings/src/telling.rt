@@ -14,7 +14,7 @@ use tables::{MAX_SHAPED, Refusal, refusal_number};
 
 // What the core tells the entry: the holes to write, and the number to answer. The records come first,
 // as in `Made`.
-#[derive(Drop)]
+#[derive(Clone, Copy)]
 pub struct Told {
     pub list: [Hole; MAX_SHAPED],
     pub count: usize,
