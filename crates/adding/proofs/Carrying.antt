@@ -30,25 +30,25 @@ use Rattle.tables.specs.Refusals.{refusal_number_lem}
 use Rattle.tables.specs.declared.ids.EdgeId.{EdgeId}
 use Rattle.tables.specs.declared.Refusal.TheVariants.{NotWhole, SameNode, TooManyNodes, TooManyEdges, TooManyPairs}
 use Rattle.adding.specs.declared.Ends.{Ends}
-use Rattle.adding.specs.declared.Decision.{Decision}
-use Rattle.adding.specs.declared.Decision.TheVariants.{Make, Enter, Keep, Refuse}
+use Rattle.std.specs.Prelude.{Ok, Err}
+use Rattle.adding.specs.declared.Decision.TheVariants.{Make, Enter, Keep}
 use Rattle.searching.specs.Searches.{Searchable, Found, find_node_in, find_half_in}
-use Rattle.adding.specs.Decisions.{decision_by, decision_in, ends_by}
+use Rattle.adding.specs.Decisions.{Decided, decision_by, decision_in, ends_by}
 use Rattle.adding.specs.Written.{Makeable}
 use Rattle.adding.specs.Outcomes.{Ready}
 use Rattle.adding.proofs.Between.{ends-half}
 use Rattle.adding.proofs.Deciding.{known-there, free-within}
 
 -- what a decision answers and leaves; a pair goes to the lowest free place
-abbrev pub carried : Decision → Line3D → State → Outcome rules.Added Nothing
-carried (Refuse why) g s = record { reply = refused (refusal_number_lem why); state = s; lists = record {} }
-carried (Keep k) g s = record { reply = success (record { edge = k.0; new = false }); state = s; lists = record {} }
-carried (Enter k) g s = record {
+abbrev pub carried : Decided → Line3D → State → Outcome rules.Added Nothing
+carried (Err why) g s = record { reply = refused (refusal_number_lem why); state = s; lists = record {} }
+carried (Ok (Keep k)) g s = record { reply = success (record { edge = k.0; new = false }); state = s; lists = record {} }
+carried (Ok (Enter k)) g s = record {
   reply = success (record { edge = k.0; new = false });
   state = with_id false limits.pairs k.0 g.line_id (free_in limits s) s;
   lists = record {};
 }
-carried (Make e) g s = record {
+carried (Ok (Make e)) g s = record {
   reply = success (record { edge = s.edges; new = true });
   state = with_edge e.start.0 e.end.0 (free_in limits s) g (with_node e.new_end e.end.0 g.end (with_node e.new_start e.start.0 g.start s));
   lists = record {};
@@ -59,10 +59,10 @@ carry : (whole same joined known space few pair : Bool) (k : EdgeId) (e : Ends) 
     → demand whole 1 s none (demand (not same) 2 s none (cond joined
     (demand (known || pair) 12 s none
     (record { reply = success (record { edge = k.0; new = false }); state = with_id known limits.pairs k.0 g.line_id (free_in limits s) s; lists = none }))
-    (demand space 3 s none (demand few 4 s none (demand pair 12 s none (carried (Make e) g s))))))
-    ≡ carried (cond whole (cond same (Refuse SameNode) (cond joined
-    (cond known (Keep k) (cond pair (Enter k) (Refuse TooManyPairs)))
-    (cond space (cond few (cond pair (Make e) (Refuse TooManyPairs)) (Refuse TooManyEdges)) (Refuse TooManyNodes)))) (Refuse NotWhole)) g s
+    (demand space 3 s none (demand few 4 s none (demand pair 12 s none (carried (Ok (Make e)) g s))))))
+    ≡ carried (cond whole (cond same (Err SameNode) (cond joined
+    (cond known (Ok (Keep k)) (cond pair (Ok (Enter k)) (Err TooManyPairs)))
+    (cond space (cond few (cond pair (Ok (Make e)) (Err TooManyPairs)) (Err TooManyEdges)) (Err TooManyNodes)))) (Err NotWhole)) g s
 carry false b c n d f m k e g s none = refl
 carry true true c n d f m k e g s none = refl
 carry true false true true d f m k e g s none = refl
@@ -74,7 +74,7 @@ carry true false false n true true true k e g s none = refl
 carry true false false n true true false k e g s none = refl
 
 -- either way of a test
-cases : (P : Decision → Type 0) (b : Bool) (x y : Decision) → (b ≡ true → P x) → (b ≡ false → P y) → P (cond b x y)
+cases : (P : Decided → Type 0) (b : Bool) (x y : Decided) → (b ≡ true → P x) → (b ≡ false → P y) → P (cond b x y)
 cases P true x y p q = p refl
 cases P false x y p q = q refl
 
@@ -155,15 +155,15 @@ module _ (g : Line3D) (s : State) where
     pub space : free_in limits s < limits.pairs
 
   -- what was tested before a decision is carried out
-  abbrev Holds : Decision → Type 0
-  Holds (Refuse why) = Unit
-  Holds (Keep k) = Unit
-  Holds (Enter k) = Enterable k.0
-  Holds (Make e) = Makeable s.nodes s.edges e s.degree × (free_in limits s < limits.pairs)
+  abbrev Holds : Decided → Type 0
+  Holds (Err why) = Unit
+  Holds (Ok (Keep k)) = Unit
+  Holds (Ok (Enter k)) = Enterable k.0
+  Holds (Ok (Make e)) = Makeable s.nodes s.edges e s.degree × (free_in limits s < limits.pairs)
 
 module _ (g : Line3D) (s : State) (ready : Ready limits s) where
   -- the decision
-  abbrev pub decided : Decision
+  abbrev pub decided : Decided
   decided =
       decision_in limits g s.nodes s.edges s.node_x s.node_y s.source s.target s.star (known_id limits s g.line_id) (free_in limits s)
 
@@ -233,11 +233,11 @@ module _ (g : Line3D) (s : State) (ready : Ready limits s) where
       )) (λ e12. tt)) (λ e4. tt)) (λ e3. tt)))) (λ e1. tt)
 
   -- an edge that is to be made can be, and there is a place for its pair
-  pub makeable : (e : Ends) → decided ≡ Make e → Makeable s.nodes s.edges e s.degree × (free_in limits s < limits.pairs)
+  pub makeable : (e : Ends) → decided ≡ Ok (Make e) → Makeable s.nodes s.edges e s.degree × (free_in limits s < limits.pairs)
   makeable e q = subst (Holds g s) q decided_holds
 
   -- an id that is to be entered can be
-  pub enterable : (k : EdgeId) → decided ≡ Enter k → Enterable g s k.0
+  pub enterable : (k : EdgeId) → decided ≡ Ok (Enter k) → Enterable g s k.0
   enterable k q = subst (Holds g s) q decided_holds
 
 -- what an addition leaves can be added to again

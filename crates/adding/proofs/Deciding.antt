@@ -13,13 +13,12 @@ use Rattle.rotation.specs.Rotation.{key_same}
 use Rattle.rules.specs.HalfEdge.{edge_of}
 use Rattle.rules.specs.Limits.{Limits}
 use Rattle.tables.specs.declared.Refusal.TheVariants.{NotWhole, SameNode}
-use Rattle.adding.specs.declared.Decision.{Decision}
-use Rattle.adding.specs.declared.Decision.TheVariants.{Refuse}
-use Rattle.adding.specs.Decisions.{id_decision, room_decision, decision_by, ends_by}
+use Rattle.std.specs.Prelude.{Err}
+use Rattle.adding.specs.Decisions.{Decided, id_decision, room_decision, decision_by, ends_by}
 
 module _ (l : Limits) (g : Line3D) (nodes edges u w h : ℕ) (known : Bool) (free : ℕ) where
   -- what the addition comes to
-  abbrev decision : Decision
+  abbrev decision : Decided
   decision = decision_by l g nodes edges u w h known free
 
   -- the test of number 2
@@ -27,18 +26,18 @@ module _ (l : Limits) (g : Line3D) (nodes edges u w h : ℕ) (known : Bool) (fre
   same = key_same (key_of g.start.x g.start.y) (key_of g.end.x g.end.y)
 
   -- the start is no coordinate
-  pub bad_start : planar l.bound g.start ≡ false → Refuse NotWhole ≡ decision
+  pub bad_start : planar l.bound g.start ≡ false → Err NotWhole ≡ decision
   unfolding decision_by
   bad_start e = rw e
 
   -- the end is none
-  pub bad_end : planar l.bound g.start ≡ true → planar l.bound g.end ≡ false → Refuse NotWhole ≡ decision
+  pub bad_end : planar l.bound g.start ≡ true → planar l.bound g.end ≡ false → Err NotWhole ≡ decision
   unfolding decision_by
   bad_end p e = rw (p, e)
 
   module _ (p : planar l.bound g.start ≡ true) (q : planar l.bound g.end ≡ true) where
     -- the ends have one key
-    pub one-node : same ≡ true → Refuse SameNode ≡ decision
+    pub one-node : same ≡ true → Err SameNode ≡ decision
     unfolding decision_by
     one-node e = rw (p, q, e)
 

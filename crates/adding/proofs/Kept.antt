@@ -18,8 +18,9 @@ use Rattle.rules.specs.Adding as rules
 use Rattle.rules.proofs.PairsTaken.{free_in}
 use Rattle.rules.proofs.Soundness.{is-roomy, is-sound}
 use Rattle.rules.proofs.Tables.{star-table-only}
-use Rattle.adding.specs.declared.Decision.{Decision}
-use Rattle.adding.specs.declared.Decision.TheVariants.{Make, Enter, Keep, Refuse}
+use Rattle.std.specs.Prelude.{Ok, Err}
+use Rattle.adding.specs.Decisions.{Decided}
+use Rattle.adding.specs.declared.Decision.TheVariants.{Make, Enter, Keep}
 use Rattle.adding.specs.Outcomes.{Ready}
 use Rattle.adding.proofs.Carrying.{carried, decided, add_carried, makeable}
 
@@ -90,11 +91,11 @@ kept-id pairs k i p s =
 
 module _ (g : Line3D) (s : State) (ready : Ready limits s) where
   -- whatever was decided
-  kept_carried : (d : Decision) → decided g s ready ≡ d → Kept s (carried d g s).state
-  kept_carried (Refuse why) e = kept_same s
-  kept_carried (Keep k) e = kept_same s
-  kept_carried (Enter k) e = kept-id limits.pairs k.0 g.line_id (free_in limits s) s
-  kept_carried (Make e) q =
+  kept_carried : (d : Decided) → decided g s ready ≡ d → Kept s (carried d g s).state
+  kept_carried (Err why) e = kept_same s
+  kept_carried (Ok (Keep k)) e = kept_same s
+  kept_carried (Ok (Enter k)) e = kept-id limits.pairs k.0 g.line_id (free_in limits s) s
+  kept_carried (Ok (Make e)) q =
       let m = (makeable g s ready e q).0 in
       let t = with_node e.new_start e.start.0 g.start s in
       let w = with_node e.new_end e.end.0 g.end t in

@@ -10,21 +10,13 @@ ghost use Rattle.adding.specs.Decisions.{pair_decision, id_decision, room_decisi
 ghost use Rattle.adding.specs.Written.{grown_by};
 
 use geometry::{Coord3D, Line3D};
-use tables::{DirEdgeId, EdgeId, NodeId, PlanarGraph, Refusal, wide};
+use tables::{DirEdgeId, EdgeId, NodeId, PlanarGraph, Refusal};
 
-// What an addition answers: a new edge, the edge that joined the two nodes before, or a refusal.
+// What a line came to: a new edge, or the edge that joined the two nodes before.
 #[derive(Clone, Copy)]
-pub enum AddReply {
+pub enum LineEdge {
     New(EdgeId),
     Old(EdgeId),
-    Refused(Refusal),
-}
-
-// The state after an addition, and its answer.
-#[derive(Clone, Copy)]
-pub struct Added {
-    pub graph: PlanarGraph,
-    pub reply: AddReply,
 }
 
 // The nodes of a line's ends, and whether they have yet to be made.
@@ -37,13 +29,12 @@ pub struct Ends {
 }
 
 // What an addition comes to, before anything is written: a new edge, one more line id behind an edge
-// that is there, nothing that is not there already, or a refusal.
+// that is there, or nothing that is not there already.
 #[derive(Clone, Copy)]
 pub enum Decision {
     Make(Ends),
     Enter(EdgeId),
     Keep(EdgeId),
-    Refuse(Refusal),
 }
 
 // Whether two points have one key.
@@ -94,42 +85,42 @@ fn ends_of(graph: PlanarGraph, start: NodeId, end: NodeId) -> Ends
 }
 
 // Number 12, for a decision that needs a pair: whether there is a place for it.
-fn find_pair(decision: Decision, free: u16) -> Decision
+fn find_pair(decision: Decision, free: u16) -> Result<Decision, Refusal>
     ensures { result ≡ pair_decision limits free decision }
 {
-    if wide(free) < tables::MAX_PAIRS {
-        decision
+    if usize::from(free) < tables::MAX_PAIRS {
+        Ok(decision)
     } else {
-        Decision::Refuse(Refusal::TooManyPairs)
+        Err(Refusal::TooManyPairs)
     }
 }
 
 // For an edge that joins the ends already: nothing is written where it has the line's id, else the id
 // needs a pair.
-fn find_id(edge: EdgeId, known: bool, free: u16) -> Decision
+fn find_id(edge: EdgeId, known: bool, free: u16) -> Result<Decision, Refusal>
     ensures { result ≡ id_decision limits edge known free }
 {
     if known {
-        Decision::Keep(edge)
+        Ok(Decision::Keep(edge))
     } else {
         find_pair(Decision::Enter(edge), free)
     }
 }
 
 // Numbers 3, 4 and 12: whether there is space for the new nodes, the new edge and its first pair.
-fn find_space(graph: PlanarGraph, ends: Ends, free: u16) -> Decision
+fn find_space(graph: PlanarGraph, ends: Ends, free: u16) -> Result<Decision, Refusal>
     requires { graph.node_count ≤ limits.nodes }
     ensures { result ≡ room_decision limits graph.node_count graph.edge_count free ends }
 {
-    let nodes = wide(graph.node_count) + wide(new_nodes(ends));
+    let nodes = usize::from(graph.node_count) + usize::from(new_nodes(ends));
     if nodes <= tables::MAX_NODES {
-        if wide(graph.edge_count) < tables::MAX_EDGES {
+        if usize::from(graph.edge_count) < tables::MAX_EDGES {
             find_pair(Decision::Make(ends), free)
         } else {
-            Decision::Refuse(Refusal::TooManyEdges)
+            Err(Refusal::TooManyEdges)
         }
     } else {
-        Decision::Refuse(Refusal::TooManyNodes)
+        Err(Refusal::TooManyNodes)
     }
 }
 
@@ -144,20 +135,20 @@ pub fn decide(
     half: DirEdgeId,
     known: bool,
     free: u16,
-) -> Decision
+) -> Result<Decision, Refusal>
     requires { (graph.node_count ≤ limits.nodes) × (graph.edge_count ≤ limits.edges) }
     ensures { result ≡ decision_by limits line graph.node_count graph.edge_count start.0 end.0 half.0 known free }
 {
     let from = line.start;
     let to = line.end;
     if !geometry::is_planar(from) {
-        return Decision::Refuse(Refusal::NotWhole);
+        return Err(Refusal::NotWhole);
     }
     if !geometry::is_planar(to) {
-        return Decision::Refuse(Refusal::NotWhole);
+        return Err(Refusal::NotWhole);
     }
     if same_key(from, to) {
-        return Decision::Refuse(Refusal::SameNode);
+        return Err(Refusal::SameNode);
     }
     if half.0 < 2 * graph.edge_count {
         return find_id(EdgeId(half.0 / 2), known, free);

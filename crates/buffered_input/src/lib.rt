@@ -2,7 +2,7 @@
 // bytes that are passed over without being held.
 #![tactic(auto)]
 
-ghost use Rattle.std.specs.Prelude.{◌≡◌, ◌+◌, ◌-◌, ◌<◌, ◌≤◌, min, length};
+ghost use Rattle.std.specs.Prelude.{◌≡◌, ◌+◌, ◌-◌, ◌<◌, ◌≤◌, length};
 ghost use Rattle.buffered_input.specs.Reads.{is_open_lem, is_failed_lem, Brings, Dropped, Fronted};
 
 use std::io::Read;
@@ -65,21 +65,15 @@ pub fn read_some<R: Read>(input: &mut R, room: &mut [u8]) -> Brought
     }
 }
 
-fn least(a: usize, b: usize) -> usize
-    ensures { result ≡ min a b }
-{
-    if a < b { a } else { b }
-}
-
 // Reads so many bytes and holds none of them: each read writes over the last. Answers how many came;
-// they are fewer where the input ended or a read failed.
+// they are fewer where the input ended or a read failed. A `while`, since each read says how many are left.
 pub fn drop_bytes<R: Read>(input: &mut R, buffer: &mut [u8], missing: usize) -> Brought
     requires { 0 < length buffer.old }
     ensures { Dropped missing result }
 {
     let mut left = missing;
     while 0 < left {
-        let room = least(left, buffer.len());
+        let room = left.min(buffer.len());
         let brought = read_some(input, &mut buffer[..room]);
         let source = brought.source;
         left -= brought.got;
@@ -101,11 +95,7 @@ fn move_front(buffer: &mut [u8], from: usize, n: usize)
     requires { from + n ≤ length buffer.old }
     ensures { Fronted from n buffer.old buffer.new }
 {
-    let mut i = 0;
-    while i < n {
-        buffer[i] = buffer[from + i];
-        i += 1;
-    }
+    buffer.copy_within(from..from + n, 0);
 }
 
 // Of a filled buffer whose first bytes were used, the rest is kept, at its front. Answers how many

@@ -1,19 +1,18 @@
 -- What listing a file ensures: ONE equation between all that came out of a call (its answer and the buffer) and what the rules say for all
 -- that went in.
-use Rattle.std.specs.Prelude.{ℕ, ◌≡◌, Bool, true, false, List, ltb, length}
+use Rattle.std.specs.Prelude.{ℕ, ◌≡◌, Bool, true, false, List, ltb, length, Result, Ok, Err}
 use Rattle.geometry.specs.Reply.{Reply, refused, success}
 use Rattle.rules.specs.Limits.{limits}
 use Rattle.tables.specs.Refusals.{refusal_number_lem}
 use Rattle.lists.specs.Buffer.{written}
 use Rattle.ring_lines.specs.Rooms.{listing_room}
 use Rattle.taken_text.specs.File.{file_text}
-use Rattle.byte_listing.specs.declared.Listed.{Listed}
-use Rattle.byte_listing.specs.declared.Listed.TheVariants.{Text, Refused}
+use Rattle.tables.specs.declared.Refusal.{Refusal}
 
 -- how many bytes the text has, or the number of a refusal
-abbrev pub listed_reply : Listed → Reply ℕ
-listed_reply (Text size) = success size
-listed_reply (Refused why) = refused (refusal_number_lem why)
+abbrev pub listed_reply : Result ℕ Refusal → Reply ℕ
+listed_reply (Ok size) = success size
+listed_reply (Err why) = refused (refusal_number_lem why)
 
 -- the answer and the buffer
 pub record Written : Type 0 where

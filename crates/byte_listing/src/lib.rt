@@ -8,13 +8,6 @@ use listing_steps::LISTING_ROOM;
 use tables::{FLOATS, IDS, MARKS, NUMBERS, PlanarGraph, Refusal, STARS};
 use taken_text::put_taken;
 
-// What is answered: how many bytes the text has, or the refusal of a buffer that is too short.
-#[derive(Clone, Copy)]
-pub enum Listed {
-    Text(usize),
-    Refused(Refusal),
-}
-
 // No node, no edge, stage 0: a new graph over tables of our own, which have room, so that number 6
 // need not be tested.
 pub fn empty_graph() -> PlanarGraph
@@ -29,12 +22,12 @@ pub fn empty_graph() -> PlanarGraph
 
 // Lists a segment file at the front of `out` and answers how many bytes the listing has. An `out`
 // shorter than `LISTING_ROOM` is refused with number 8, and nothing is written.
-pub fn list_bytes(bytes: &[u8], out: &mut [u8]) -> Listed
+pub fn list_bytes(bytes: &[u8], out: &mut [u8]) -> Result<usize, Refusal>
     ensures { ListsBytes bytes.now out.old (listed_reply result) out.new }
 {
     let short = out.len() < LISTING_ROOM;
     if short {
-        return Listed::Refused(Refusal::ListTooShort);
+        return Err(Refusal::ListTooShort);
     }
     let mut floats = [0.0f64; FLOATS];
     let mut numbers = [0u16; NUMBERS];
@@ -56,5 +49,5 @@ pub fn list_bytes(bytes: &[u8], out: &mut [u8]) -> Listed
     let size = put_taken(
         after, records, reply, &floats, &numbers, &mut stars, &mut marks, &ids, out,
     );
-    Listed::Text(size)
+    Ok(size)
 }

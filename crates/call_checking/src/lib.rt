@@ -2,64 +2,33 @@
 #![tactic(auto)]
 
 use call_entries::enter;
-use call_image::{image_of, is_kept};
-use call_lending::Settings;
+use call_image::{Change, image_of};
+use call_lending::{Settings, Tables};
 use call_list::GraphCall;
-use call_replies::{end_line, say_reply};
+use call_replies::say_reply;
 use std::io;
 use std::io::Write;
-use tables::{FLOATS, IDS, MARKS, MAX_HALF_EDGES, NUMBERS, PlanarGraph, STARS};
+use tables::PlanarGraph;
 
-// Any call but the extraction of rings; pruning and cutting list edges where the half-edges of rings go.
+// Any call but the extraction of rings.
 pub fn perform<W: Write>(
     out: &mut W,
     call: GraphCall,
     settings: Settings,
-    floats: &mut [f64; FLOATS],
-    numbers: &mut [u16; NUMBERS],
-    stars: &mut [u16; STARS],
-    marks: &mut [bool; MARKS],
-    ids: &mut [u32; IDS],
-    half_edges: &mut [u16; MAX_HALF_EDGES],
-    ring_first: &[u16; MAX_HALF_EDGES],
-    ring_length: &[u16; MAX_HALF_EDGES],
-    ring_face: &[u16; MAX_HALF_EDGES],
-    ring_side: &[u8; MAX_HALF_EDGES],
-    ring_area: &[f64; MAX_HALF_EDGES],
+    tables: &mut Tables,
 ) -> io::Result<PlanarGraph> {
-    let before = image_of(
-        floats,
-        numbers,
-        stars,
-        marks,
-        ids,
-        half_edges,
-        ring_first,
-        ring_length,
-        ring_face,
-        ring_side,
-        ring_area,
-    );
-    let done = enter(
-        call, settings, floats, numbers, stars, marks, ids, half_edges,
-    );
-    let after = image_of(
-        floats,
-        numbers,
-        stars,
-        marks,
-        ids,
-        half_edges,
-        ring_first,
-        ring_length,
-        ring_face,
-        ring_side,
-        ring_area,
-    );
-    let old = settings.graph;
-    let new = done.graph;
+    let before = image_of(tables);
+    let done = enter(call, settings, tables);
+    let after = image_of(tables);
     let reply = done.reply;
-    say_reply(out, reply, half_edges)?;
-    end_line(out, is_kept(reply, old, new, &before, &after))?;
+    let new = done.graph;
+    let change = Change {
+        old: settings.graph,
+        new,
+        before: &before,
+        after: &after,
+    };
+    let is_kept = change.is_kept(reply);
+    say_reply(out, reply, &tables.lists.half_edges, is_kept)?;
     Ok(new)
 }

@@ -2,245 +2,131 @@
 // lent the most lists, is in call_rings.
 #![tactic(auto)]
 
-use adding::AddReply;
-use call_lending::{
-    Settings, first_numbers, lend_floats, lend_ids, lend_marks, lend_numbers, lend_stars,
-    share_floats, share_ids, share_marks, share_numbers, share_stars,
-};
+use adding::LineEdge;
+use call_lending::{LentLists, LentSlices, Settings, Tables};
 use call_list::GraphCall;
-use call_replies::{Outcome, Reply};
-use calls::StepReply;
-use create_entry::Created;
-use cut_entry::CutReply;
+use call_replies::Reply;
 use geometry::Line3D;
-use prune_entry::PruneReply;
-use tables::Refusal;
+use tables::{Answer, PlanarGraph};
 
-// A refusal's number.
-fn refused(why: Refusal) -> Reply {
-    Reply::Refused(tables::refusal_number(why) as u64)
+// What a call left, its value in the form of all replies.
+fn told<T: Drop, F: FnOnce(T) -> Reply>(done: Answer<T>, tell: F) -> Answer<Reply>
+    requires { F.IsAlwaysCallable tell }
+{
+    Answer {
+        graph: done.graph,
+        reply: done.reply.map(tell),
+    }
+}
+
+// A line joins two nodes by a new edge, or by the one that was there.
+fn joined(edge: LineEdge) -> Reply {
+    match edge {
+        LineEdge::New(edge) => Reply::New(edge),
+        LineEdge::Old(edge) => Reply::Old(edge),
+    }
 }
 
 // A refusal leaves the graph that was there.
-fn create(
-    settings: Settings,
-    floats: &[f64],
-    numbers: &[u16],
-    stars: &[u16],
-    marks: &[bool],
-    ids: &[u32],
-) -> Outcome {
-    let graph = settings.graph;
-    let short = settings.short;
-    let done = create_entry::create(
-        share_floats(floats, short),
-        share_numbers(numbers, short),
-        share_stars(stars, short),
-        share_marks(marks, short),
-        share_ids(ids, short),
-    );
-    match done {
-        Created::Graph(made) => Outcome {
+fn create(graph: PlanarGraph, lent: LentSlices<'_>) -> Answer<Reply> {
+    let LentSlices {
+        floats,
+        numbers,
+        stars,
+        marks,
+        ids,
+    } = lent;
+    match create_entry::create(floats, numbers, stars, marks, ids) {
+        Ok(made) => Answer {
             graph: made,
-            reply: Reply::Created,
+            reply: Ok(Reply::Created),
         },
-        Created::Refused(why) => Outcome {
+        Err(why) => Answer {
             graph,
-            reply: refused(why),
+            reply: Err(why),
         },
     }
 }
 
-fn add(
-    settings: Settings,
-    line: Line3D,
-    floats: &mut [f64],
-    numbers: &mut [u16],
-    stars: &mut [u16],
-    marks: &mut [bool],
-    ids: &mut [u32],
-) -> Outcome {
-    let graph = settings.graph;
-    let short = settings.short;
-    let done = add_entry::add_line(
-        graph,
-        line,
-        lend_floats(floats, short),
-        lend_numbers(numbers, short),
-        lend_stars(stars, short),
-        lend_marks(marks, short),
-        lend_ids(ids, short),
-    );
-    let after = done.graph;
-    let answer = done.reply;
-    match answer {
-        AddReply::New(edge) => Outcome {
-            graph: after,
-            reply: Reply::New(edge),
-        },
-        AddReply::Old(edge) => Outcome {
-            graph: after,
-            reply: Reply::Old(edge),
-        },
-        AddReply::Refused(why) => Outcome {
-            graph: after,
-            reply: refused(why),
-        },
-    }
+fn add(graph: PlanarGraph, line: Line3D, lent: LentSlices<'_>) -> Answer<Reply> {
+    let LentSlices {
+        floats,
+        numbers,
+        stars,
+        marks,
+        ids,
+    } = lent;
+    let done = add_entry::add_line(graph, line, floats, numbers, stars, marks, ids);
+    told(done, |edge| joined(edge))
 }
 
-fn sort(
-    settings: Settings,
-    floats: &[f64],
-    numbers: &[u16],
-    stars: &mut [u16],
-    marks: &[bool],
-    ids: &[u32],
-) -> Outcome {
-    let graph = settings.graph;
-    let short = settings.short;
-    let done = sort_entry::sort_edges(
-        graph,
-        share_floats(floats, short),
-        share_numbers(numbers, short),
-        lend_stars(stars, short),
-        share_marks(marks, short),
-        share_ids(ids, short),
-    );
-    let after = done.graph;
-    let answer = done.reply;
-    match answer {
-        StepReply::Done => Outcome {
-            graph: after,
-            reply: Reply::Sorted,
-        },
-        StepReply::Refused(why) => Outcome {
-            graph: after,
-            reply: refused(why),
-        },
-    }
+fn sort(graph: PlanarGraph, lent: LentSlices<'_>) -> Answer<Reply> {
+    let LentSlices {
+        floats,
+        numbers,
+        stars,
+        marks,
+        ids,
+    } = lent;
+    let done = sort_entry::sort_edges(graph, floats, numbers, stars, marks, ids);
+    told(done, |()| Reply::Sorted)
 }
 
-fn prune(
-    settings: Settings,
-    floats: &[f64],
-    numbers: &[u16],
-    stars: &mut [u16],
-    marks: &mut [bool],
-    ids: &[u32],
-    out: &mut [u16],
-) -> Outcome {
-    let graph = settings.graph;
-    let short = settings.short;
-    let length = settings.length;
-    let done = prune_entry::prune_dangles(
-        graph,
-        share_floats(floats, short),
-        share_numbers(numbers, short),
-        lend_stars(stars, short),
-        lend_marks(marks, short),
-        share_ids(ids, short),
-        first_numbers(out, length),
-    );
-    let after = done.graph;
-    let answer = done.reply;
-    match answer {
-        PruneReply::Dangles(count) => Outcome {
-            graph: after,
-            reply: Reply::Dangles(count),
-        },
-        PruneReply::Refused(why) => Outcome {
-            graph: after,
-            reply: refused(why),
-        },
-    }
+fn prune(graph: PlanarGraph, lent: LentSlices<'_>, listed: &mut [u16]) -> Answer<Reply> {
+    let LentSlices {
+        floats,
+        numbers,
+        stars,
+        marks,
+        ids,
+    } = lent;
+    let done = prune_entry::prune_dangles(graph, floats, numbers, stars, marks, ids, listed);
+    told(done, |count| Reply::Dangles(count))
 }
 
-fn cut(
-    settings: Settings,
-    floats: &[f64],
-    numbers: &[u16],
-    stars: &[u16],
-    marks: &mut [bool],
-    ids: &[u32],
-    out: &mut [u16],
-) -> Outcome {
-    let graph = settings.graph;
-    let short = settings.short;
-    let length = settings.length;
-    let done = cut_entry::delete_cut_edges(
-        graph,
-        share_floats(floats, short),
-        share_numbers(numbers, short),
-        share_stars(stars, short),
-        lend_marks(marks, short),
-        share_ids(ids, short),
-        first_numbers(out, length),
-    );
-    let after = done.graph;
-    let answer = done.reply;
-    match answer {
-        CutReply::Cuts(count, census) => Outcome {
-            graph: after,
-            reply: Reply::Cuts(count, census),
+fn cut(graph: PlanarGraph, lent: LentSlices<'_>, listed: &mut [u16]) -> Answer<Reply> {
+    let LentSlices {
+        floats,
+        numbers,
+        stars,
+        marks,
+        ids,
+    } = lent;
+    let done = cut_entry::delete_cut_edges(graph, floats, numbers, stars, marks, ids, listed);
+    told(
+        done,
+        |cuts| Reply::Cuts {
+            count: cuts.count,
+            census: cuts.census,
         },
-        CutReply::Refused(why) => Outcome {
-            graph: after,
-            reply: refused(why),
-        },
-    }
+    )
 }
 
-fn reset(
-    settings: Settings,
-    floats: &[f64],
-    numbers: &[u16],
-    stars: &mut [u16],
-    marks: &mut [bool],
-    ids: &[u32],
-) -> Outcome {
-    let graph = settings.graph;
-    let short = settings.short;
-    let done = reset_entry::reset(
-        graph,
-        share_floats(floats, short),
-        share_numbers(numbers, short),
-        lend_stars(stars, short),
-        lend_marks(marks, short),
-        share_ids(ids, short),
-    );
-    let after = done.graph;
-    let answer = done.reply;
-    match answer {
-        StepReply::Done => Outcome {
-            graph: after,
-            reply: Reply::WasReset,
-        },
-        StepReply::Refused(why) => Outcome {
-            graph: after,
-            reply: refused(why),
-        },
-    }
+fn reset(graph: PlanarGraph, lent: LentSlices<'_>) -> Answer<Reply> {
+    let LentSlices {
+        floats,
+        numbers,
+        stars,
+        marks,
+        ids,
+    } = lent;
+    let done = reset_entry::reset(graph, floats, numbers, stars, marks, ids);
+    told(done, |()| Reply::WasReset)
 }
 
 // The entry that a line of the call list names, but for the extraction of rings; pruning and cutting list
-// edges in `out`.
-pub fn enter(
-    call: GraphCall,
-    settings: Settings,
-    floats: &mut [f64],
-    numbers: &mut [u16],
-    stars: &mut [u16],
-    marks: &mut [bool],
-    ids: &mut [u32],
-    out: &mut [u16],
-) -> Outcome {
+// edges where the half-edges of rings go.
+pub fn enter(call: GraphCall, settings: Settings, tables: &mut Tables) -> Answer<Reply> {
+    let graph = settings.graph;
+    let Tables { slices, lists } = tables;
+    let lent = slices.lend(settings.short);
+    let LentLists { half_edges, .. } = lists.lend(settings.length);
     match call {
-        GraphCall::Create => create(settings, floats, numbers, stars, marks, ids),
-        GraphCall::Add(line) => add(settings, line, floats, numbers, stars, marks, ids),
-        GraphCall::Sort => sort(settings, floats, numbers, stars, marks, ids),
-        GraphCall::Prune => prune(settings, floats, numbers, stars, marks, ids, out),
-        GraphCall::Cut => cut(settings, floats, numbers, stars, marks, ids, out),
-        GraphCall::Reset => reset(settings, floats, numbers, stars, marks, ids),
+        GraphCall::Create => create(graph, lent),
+        GraphCall::Add(line) => add(graph, line, lent),
+        GraphCall::Sort => sort(graph, lent),
+        GraphCall::Prune => prune(graph, lent, half_edges),
+        GraphCall::Cut => cut(graph, lent, half_edges),
+        GraphCall::Reset => reset(graph, lent),
     }
 }

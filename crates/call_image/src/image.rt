@@ -1,10 +1,10 @@
-// The image of the lent slices and lists: every entry of every one of them as 64 bits, one after
-// another. Two images are compared entry by entry.
-ghost use Rattle.std.specs.Prelude.{◌≡◌, true, ℕ, ◌+◌, ◌<◌, ◌≤◌, length, get_or};
+// The image of the slices and lists: every entry of every one of them as 64 bits, one after another.
+ghost use Rattle.std.specs.Prelude.{◌+◌, ◌≤◌, length};
 ghost use Rattle.rules.specs.Limits.{limits};
 ghost use Rattle.call_image.specs.Image.{image_length};
 
-use call_replies::{byte_number, float_bits, id_number, mark_number, number};
+use call_lending::Tables;
+use call_replies::float_bits;
 use tables::{FLOATS, IDS, MARKS, MAX_HALF_EDGES, NUMBERS, STARS};
 
 // Where each slice begins in the image, in the order of the entries' parameters.
@@ -33,150 +33,66 @@ pub const AREA_AT: usize = SIDE_AT + MAX_HALF_EDGES;
 
 pub const IMAGE: usize = AREA_AT + MAX_HALF_EDGES;
 
-fn copy_floats(table: &[f64], at: usize, image: &mut [u64; IMAGE])
-    requires { at + length table.now ≤ image_length limits }
-{
-    let mut i = 0;
-    while i < table.len() {
-        image[at + i] = float_bits(table[i]);
-        i += 1;
+pub type Image = [u64; IMAGE];
+
+// An entry as 64 bits.
+trait Bits: Copy {
+    fn bits(self) -> u64;
+}
+
+impl Bits for f64 {
+    fn bits(self) -> u64 {
+        float_bits(self)
     }
 }
 
-fn copy_numbers(table: &[u16], at: usize, image: &mut [u64; IMAGE])
-    requires { at + length table.now ≤ image_length limits }
-{
-    let mut i = 0;
-    while i < table.len() {
-        image[at + i] = number(table[i]);
-        i += 1;
+impl Bits for u32 {
+    fn bits(self) -> u64 {
+        u64::from(self)
     }
 }
 
-fn copy_ids(table: &[u32], at: usize, image: &mut [u64; IMAGE])
-    requires { at + length table.now ≤ image_length limits }
-{
-    let mut i = 0;
-    while i < table.len() {
-        image[at + i] = id_number(table[i]);
-        i += 1;
+impl Bits for u16 {
+    fn bits(self) -> u64 {
+        u64::from(self)
     }
 }
 
-fn copy_sides(table: &[u8], at: usize, image: &mut [u64; IMAGE])
-    requires { at + length table.now ≤ image_length limits }
-{
-    let mut i = 0;
-    while i < table.len() {
-        image[at + i] = byte_number(table[i]);
-        i += 1;
+impl Bits for u8 {
+    fn bits(self) -> u64 {
+        u64::from(self)
     }
 }
 
-fn copy_marks(table: &[bool], at: usize, image: &mut [u64; IMAGE])
-    requires { at + length table.now ≤ image_length limits }
-{
-    let mut i = 0;
-    while i < table.len() {
-        image[at + i] = mark_number(table[i]);
-        i += 1;
+impl Bits for bool {
+    fn bits(self) -> u64 {
+        u64::from(self)
     }
 }
 
-fn copy_slices(
-    floats: &[f64; FLOATS],
-    numbers: &[u16; NUMBERS],
-    stars: &[u16; STARS],
-    marks: &[bool; MARKS],
-    ids: &[u32; IDS],
-    image: &mut [u64; IMAGE],
-) {
-    copy_floats(floats, FLOATS_AT, image);
-    copy_numbers(numbers, NUMBERS_AT, image);
-    copy_numbers(stars, STARS_AT, image);
-    copy_marks(marks, MARKS_AT, image);
-    copy_ids(ids, IDS_AT, image);
-}
-
-fn copy_lists(
-    half_edges: &[u16; MAX_HALF_EDGES],
-    ring_first: &[u16; MAX_HALF_EDGES],
-    ring_length: &[u16; MAX_HALF_EDGES],
-    ring_face: &[u16; MAX_HALF_EDGES],
-    ring_side: &[u8; MAX_HALF_EDGES],
-    ring_area: &[f64; MAX_HALF_EDGES],
-    image: &mut [u64; IMAGE],
-) {
-    copy_numbers(half_edges, HALF_EDGES_AT, image);
-    copy_numbers(ring_first, FIRST_AT, image);
-    copy_numbers(ring_length, LENGTH_AT, image);
-    copy_numbers(ring_face, FACE_AT, image);
-    copy_sides(ring_side, SIDE_AT, image);
-    copy_floats(ring_area, AREA_AT, image);
+fn copy_table<T: Bits>(table: &[T], at: usize, image: &mut Image)
+    requires { at + length table.now ≤ image_length limits }
+{
+    for (i, x) in table.iter().enumerate() {
+        image[at + i] = x.bits();
+    }
 }
 
 // The image of everything that a call is lent.
-pub fn image_of(
-    floats: &[f64; FLOATS],
-    numbers: &[u16; NUMBERS],
-    stars: &[u16; STARS],
-    marks: &[bool; MARKS],
-    ids: &[u32; IDS],
-    half_edges: &[u16; MAX_HALF_EDGES],
-    ring_first: &[u16; MAX_HALF_EDGES],
-    ring_length: &[u16; MAX_HALF_EDGES],
-    ring_face: &[u16; MAX_HALF_EDGES],
-    ring_side: &[u8; MAX_HALF_EDGES],
-    ring_area: &[f64; MAX_HALF_EDGES],
-) -> [u64; IMAGE] {
+pub fn image_of(tables: &Tables) -> Image {
     let mut image = [0u64; IMAGE];
-    copy_slices(floats, numbers, stars, marks, ids, &mut image);
-    copy_lists(
-        half_edges,
-        ring_first,
-        ring_length,
-        ring_face,
-        ring_side,
-        ring_area,
-        &mut image,
-    );
+    let slices = &tables.slices;
+    copy_table(&slices.floats, FLOATS_AT, &mut image);
+    copy_table(&slices.numbers, NUMBERS_AT, &mut image);
+    copy_table(&slices.stars, STARS_AT, &mut image);
+    copy_table(&slices.marks, MARKS_AT, &mut image);
+    copy_table(&slices.ids, IDS_AT, &mut image);
+    let lists = &tables.lists;
+    copy_table(&lists.half_edges, HALF_EDGES_AT, &mut image);
+    copy_table(&lists.ring_first, FIRST_AT, &mut image);
+    copy_table(&lists.ring_length, LENGTH_AT, &mut image);
+    copy_table(&lists.ring_face, FACE_AT, &mut image);
+    copy_table(&lists.ring_side, SIDE_AT, &mut image);
+    copy_table(&lists.ring_area, AREA_AT, &mut image);
     image
-}
-
-// Whether two images are alike from one place to another.
-pub fn same_part(before: &[u64; IMAGE], after: &[u64; IMAGE], from: usize, to: usize) -> bool
-    requires { to ≤ image_length limits }
-    ensures { result ≡ true → (k : ℕ) → k < to → from ≤ k → get_or before.now k 0 ≡ get_or after.now k 0 }
-{
-    let mut i = from;
-    while i < to {
-        if before[i] != after[i] {
-            return false;
-        }
-        i += 1;
-    }
-    true
-}
-
-// The lesser of two lengths.
-pub fn lesser(a: usize, b: usize) -> usize
-    ensures { (result ≤ a) × (result ≤ b) }
-{
-    if a < b { a } else { b }
-}
-
-// Whether the table that begins at `at` kept its entries but for those from `first` up to `last`.
-pub fn same_around(
-    before: &[u64; IMAGE],
-    after: &[u64; IMAGE],
-    at: usize,
-    size: usize,
-    first: usize,
-    last: usize,
-) -> bool
-    requires { at + size ≤ image_length limits }
-{
-    let head = at + lesser(first, size);
-    let tail = at + lesser(last, size);
-    same_part(before, after, at, head) && same_part(before, after, tail, at + size)
 }

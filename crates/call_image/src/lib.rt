@@ -2,8 +2,9 @@
 // stands there after it are compared entry by entry.
 #![tactic(auto)]
 
+mod change;
 mod image;
 mod stays;
 
-pub use image::{IMAGE, image_of, lesser};
-pub use stays::is_kept;
+pub use change::Change;
+pub use image::{Image, image_of};

@@ -4,107 +4,22 @@ ghost use Rattle.std.specs.Prelude.{◌+◌, ◌*◌, ◌≤◌};
 ghost use Rattle.rules.specs.Limits.{limits};
 ghost use Rattle.call_image.specs.Image.{image_length};
 
+use crate::change::Change;
 use crate::image::{
-    AREA_AT, FACE_AT, FIRST_AT, FLOATS_AT, HALF_EDGES_AT, IDS_AT, IMAGE, LENGTH_AT, MARKS_AT,
-    NUMBERS_AT, SIDE_AT, STARS_AT, same_around, same_part,
+    AREA_AT, FACE_AT, FIRST_AT, FLOATS_AT, HALF_EDGES_AT, IDS_AT, IMAGE, Image, LENGTH_AT,
+    MARKS_AT, NUMBERS_AT, SIDE_AT, STARS_AT,
 };
 use call_replies::Reply;
 use tables::{
     DEGREES, EdgeId, HALF_MARKS, LINKS, LIST_PLACES, MAX_EDGES, MAX_HALF_EDGES, MAX_NODES,
-    MAX_PAIRS, NODES_Y, NODES_Z, PAIR_IDS, PlanarGraph, SEGMENTS, TARGETS, wide,
+    MAX_PAIRS, NODES_Y, NODES_Z, PAIR_IDS, PlanarGraph, Refusal, SEGMENTS, TARGETS,
 };
 
-fn same_graph(a: PlanarGraph, b: PlanarGraph) -> bool {
-    a.node_count == b.node_count && a.edge_count == b.edge_count && a.stage == b.stage
-}
-
-// The lists but for the half-edges and the rings written.
-fn same_lists(before: &[u64; IMAGE], after: &[u64; IMAGE], halves: usize, rings: usize) -> bool {
-    same_around(before, after, HALF_EDGES_AT, MAX_HALF_EDGES, 0, halves)
-        && same_around(before, after, FIRST_AT, MAX_HALF_EDGES, 0, rings)
-        && same_around(before, after, LENGTH_AT, MAX_HALF_EDGES, 0, rings)
-        && same_around(before, after, FACE_AT, MAX_HALF_EDGES, 0, rings)
-        && same_around(before, after, SIDE_AT, MAX_HALF_EDGES, 0, rings)
-        && same_around(before, after, AREA_AT, MAX_HALF_EDGES, 0, rings)
-}
-
-// The marks of half-edges but for those of the edges there are.
-fn same_half_marks(before: &[u64; IMAGE], after: &[u64; IMAGE], edges: u16) -> bool {
-    same_around(
-        before,
-        after,
-        MARKS_AT + HALF_MARKS,
-        MAX_HALF_EDGES,
-        0,
-        2 * wide(edges),
-    )
-}
-
-// The slices but for the marks of the half-edges.
-fn same_but_half_marks(before: &[u64; IMAGE], after: &[u64; IMAGE], edges: u16) -> bool {
-    same_part(before, after, 0, MARKS_AT + HALF_MARKS)
-        && same_half_marks(before, after, edges)
-        && same_part(before, after, IDS_AT, HALF_EDGES_AT)
-}
-
-// The slices but for the stars.
-fn same_but_stars(before: &[u64; IMAGE], after: &[u64; IMAGE], edges: u16) -> bool {
-    same_part(before, after, 0, STARS_AT)
-        && same_around(before, after, STARS_AT, MAX_HALF_EDGES, 0, 2 * wide(edges))
-        && same_part(before, after, STARS_AT + DEGREES, HALF_EDGES_AT)
-}
-
-// The slices but for degrees and marks.
-fn same_but_marks(before: &[u64; IMAGE], after: &[u64; IMAGE], graph: PlanarGraph) -> bool {
-    let nodes = wide(graph.node_count);
-    same_part(before, after, 0, STARS_AT + DEGREES)
-        && same_around(before, after, STARS_AT + DEGREES, MAX_NODES, 0, nodes)
-        && same_around(before, after, MARKS_AT, MAX_NODES, 0, nodes)
-        && same_half_marks(before, after, graph.edge_count)
-        && same_part(before, after, IDS_AT, HALF_EDGES_AT)
-}
-
-// The tables of nodes but for the new ones; degrees of old nodes may grow.
-fn same_but_nodes(before: &[u64; IMAGE], after: &[u64; IMAGE], old: u16, new: u16) -> bool {
-    let first = wide(old);
-    let last = wide(new);
-    same_around(before, after, FLOATS_AT, MAX_NODES, first, last)
-        && same_around(before, after, FLOATS_AT + NODES_Y, MAX_NODES, first, last)
-        && same_around(before, after, FLOATS_AT + NODES_Z, MAX_NODES, first, last)
-        && same_around(before, after, STARS_AT + DEGREES, MAX_NODES, 0, last)
-        && same_around(before, after, MARKS_AT, MAX_NODES, first, last)
-}
-
-// A table of half-edges but for the two of an edge.
-fn same_but_halves(before: &[u64; IMAGE], after: &[u64; IMAGE], at: usize, edge: EdgeId) -> bool
-    requires { at + 2 * limits.edges ≤ image_length limits }
-{
-    let k = wide(edge.0);
-    same_around(before, after, at, MAX_HALF_EDGES, 2 * k, 2 * k + 2)
-}
-
-// The tables of edges and half-edges but for those of an edge.
-fn same_but_edge(before: &[u64; IMAGE], after: &[u64; IMAGE], edge: EdgeId) -> bool {
-    let k = wide(edge.0);
-    same_around(
-        before,
-        after,
-        FLOATS_AT + SEGMENTS,
-        6 * MAX_EDGES,
-        6 * k,
-        6 * k + 6,
-    ) && same_around(before, after, IDS_AT, MAX_EDGES, k, k + 1)
-        && same_but_halves(before, after, NUMBERS_AT, edge)
-        && same_but_halves(before, after, NUMBERS_AT + TARGETS, edge)
-        && same_but_halves(before, after, MARKS_AT + HALF_MARKS, edge)
-        && same_but_halves(before, after, STARS_AT, edge)
-}
-
 // The place of an edge's list, or the number of pairs where it has none.
-fn list_place(image: &[u64; IMAGE], edge: EdgeId) -> usize
+fn list_place(image: &Image, edge: EdgeId) -> usize
     ensures { result ≤ limits.pairs }
 {
-    let k = wide(edge.0);
+    let k = usize::from(edge.0);
     if k < MAX_EDGES {
         let place = image[NUMBERS_AT + LIST_PLACES + k] as usize;
         if place < MAX_PAIRS {
@@ -114,57 +29,133 @@ fn list_place(image: &[u64; IMAGE], edge: EdgeId) -> usize
     MAX_PAIRS
 }
 
-// The tables of the lists of line ids but for an edge's list place and one pair.
-fn same_but_pair(before: &[u64; IMAGE], after: &[u64; IMAGE], edge: EdgeId) -> bool {
-    let k = wide(edge.0);
-    let p = list_place(after, edge);
-    same_around(before, after, NUMBERS_AT + LIST_PLACES, MAX_EDGES, k, k + 1)
-        && same_around(before, after, NUMBERS_AT + LINKS, MAX_PAIRS, p, p + 1)
-        && same_around(before, after, IDS_AT + PAIR_IDS, MAX_PAIRS, p, p + 1)
-}
+impl Change<'_> {
+    fn same_graph(self) -> bool {
+        // `PlanarGraph` has no `==`
+        let old = (self.old.node_count, self.old.edge_count, self.old.stage);
+        old == (self.new.node_count, self.new.edge_count, self.new.stage)
+    }
 
-// All but an edge's line id and its list: a repeat may bring an id.
-fn same_but_ids(before: &[u64; IMAGE], after: &[u64; IMAGE], edge: EdgeId) -> bool {
-    let k = wide(edge.0);
-    same_part(before, after, 0, NUMBERS_AT + LIST_PLACES)
-        && same_around(before, after, NUMBERS_AT + LIST_PLACES, MAX_EDGES, k, k + 1)
-        && same_part(before, after, STARS_AT, IDS_AT)
-        && same_around(before, after, IDS_AT, MAX_EDGES, k, k + 1)
-        && same_part(before, after, HALF_EDGES_AT, IMAGE)
-}
+    // The lists but for the half-edges and the rings written.
+    fn same_lists(self, halves: usize, rings: usize) -> bool {
+        self.same_around(HALF_EDGES_AT, MAX_HALF_EDGES, 0, halves)
+            && self.same_around(FIRST_AT, MAX_HALF_EDGES, 0, rings)
+            && self.same_around(LENGTH_AT, MAX_HALF_EDGES, 0, rings)
+            && self.same_around(FACE_AT, MAX_HALF_EDGES, 0, rings)
+            && self.same_around(SIDE_AT, MAX_HALF_EDGES, 0, rings)
+            && self.same_around(AREA_AT, MAX_HALF_EDGES, 0, rings)
+    }
 
-// Whether the call left alone what it has to.
-pub fn is_kept(
-    reply: Reply,
-    old: PlanarGraph,
-    new: PlanarGraph,
-    before: &[u64; IMAGE],
-    after: &[u64; IMAGE],
-) -> bool {
-    match reply {
-        Reply::Created => same_part(before, after, 0, IMAGE),
-        Reply::Old(edge) => same_graph(old, new) && same_but_ids(before, after, edge),
-        Reply::Refused(_) => same_graph(old, new) && same_part(before, after, 0, IMAGE),
-        Reply::New(edge) => {
-            same_but_nodes(before, after, old.node_count, new.node_count)
-                && same_but_edge(before, after, edge)
-                && same_but_pair(before, after, edge)
-                && same_lists(before, after, 0, 0)
-        }
-        Reply::Sorted => {
-            same_but_stars(before, after, new.edge_count) && same_lists(before, after, 0, 0)
-        }
-        Reply::WasReset => same_but_marks(before, after, new) && same_lists(before, after, 0, 0),
-        Reply::Dangles(count) => {
-            same_but_marks(before, after, new) && same_lists(before, after, wide(count), 0)
-        }
-        Reply::Cuts(count, _) => {
-            same_but_half_marks(before, after, new.edge_count)
-                && same_lists(before, after, wide(count), 0)
-        }
-        Reply::Rings(count, _, _, halves, _) => {
-            same_part(before, after, 0, HALF_EDGES_AT)
-                && same_lists(before, after, wide(halves), wide(count))
+    // The marks of half-edges but for those of the edges there are.
+    fn same_half_marks(self, edges: u16) -> bool {
+        self.same_around(
+            MARKS_AT + HALF_MARKS,
+            MAX_HALF_EDGES,
+            0,
+            2 * usize::from(edges),
+        )
+    }
+
+    // The slices but for the marks of the half-edges.
+    fn same_but_half_marks(self, edges: u16) -> bool {
+        self.same_part(0, MARKS_AT + HALF_MARKS)
+            && self.same_half_marks(edges)
+            && self.same_part(IDS_AT, HALF_EDGES_AT)
+    }
+
+    // The slices but for the stars.
+    fn same_but_stars(self, edges: u16) -> bool {
+        self.same_part(0, STARS_AT)
+            && self.same_around(STARS_AT, MAX_HALF_EDGES, 0, 2 * usize::from(edges))
+            && self.same_part(STARS_AT + DEGREES, HALF_EDGES_AT)
+    }
+
+    // The slices but for degrees and marks.
+    fn same_but_marks(self, graph: PlanarGraph) -> bool {
+        let nodes = usize::from(graph.node_count);
+        self.same_part(0, STARS_AT + DEGREES)
+            && self.same_around(STARS_AT + DEGREES, MAX_NODES, 0, nodes)
+            && self.same_around(MARKS_AT, MAX_NODES, 0, nodes)
+            && self.same_half_marks(graph.edge_count)
+            && self.same_part(IDS_AT, HALF_EDGES_AT)
+    }
+
+    // The tables of nodes but for the new ones; degrees of old nodes may grow.
+    fn same_but_nodes(self, old: u16, new: u16) -> bool {
+        let first = usize::from(old);
+        let last = usize::from(new);
+        self.same_around(FLOATS_AT, MAX_NODES, first, last)
+            && self.same_around(FLOATS_AT + NODES_Y, MAX_NODES, first, last)
+            && self.same_around(FLOATS_AT + NODES_Z, MAX_NODES, first, last)
+            && self.same_around(STARS_AT + DEGREES, MAX_NODES, 0, last)
+            && self.same_around(MARKS_AT, MAX_NODES, first, last)
+    }
+
+    // A table of half-edges but for the two of an edge.
+    fn same_but_halves(self, at: usize, edge: EdgeId) -> bool
+        requires { at + 2 * limits.edges ≤ image_length limits }
+    {
+        let k = usize::from(edge.0);
+        self.same_around(at, MAX_HALF_EDGES, 2 * k, 2 * k + 2)
+    }
+
+    // The tables of edges and half-edges but for those of an edge.
+    fn same_but_edge(self, edge: EdgeId) -> bool {
+        let k = usize::from(edge.0);
+        self.same_around(FLOATS_AT + SEGMENTS, 6 * MAX_EDGES, 6 * k, 6 * k + 6)
+            && self.same_around(IDS_AT, MAX_EDGES, k, k + 1)
+            && self.same_but_halves(NUMBERS_AT, edge)
+            && self.same_but_halves(NUMBERS_AT + TARGETS, edge)
+            && self.same_but_halves(MARKS_AT + HALF_MARKS, edge)
+            && self.same_but_halves(STARS_AT, edge)
+    }
+
+    // The tables of the lists of line ids but for an edge's list place and one pair.
+    fn same_but_pair(self, edge: EdgeId) -> bool {
+        let k = usize::from(edge.0);
+        let p = list_place(self.after, edge);
+        self.same_around(NUMBERS_AT + LIST_PLACES, MAX_EDGES, k, k + 1)
+            && self.same_around(NUMBERS_AT + LINKS, MAX_PAIRS, p, p + 1)
+            && self.same_around(IDS_AT + PAIR_IDS, MAX_PAIRS, p, p + 1)
+    }
+
+    // All but an edge's line id and its list: a repeat may bring an id.
+    fn same_but_ids(self, edge: EdgeId) -> bool {
+        let k = usize::from(edge.0);
+        self.same_part(0, NUMBERS_AT + LIST_PLACES)
+            && self.same_around(NUMBERS_AT + LIST_PLACES, MAX_EDGES, k, k + 1)
+            && self.same_part(STARS_AT, IDS_AT)
+            && self.same_around(IDS_AT, MAX_EDGES, k, k + 1)
+            && self.same_part(HALF_EDGES_AT, IMAGE)
+    }
+
+    // Whether the call left alone what it has to.
+    pub fn is_kept(self, reply: Result<Reply, Refusal>) -> bool {
+        let Ok(reply) = reply else {
+            return self.same_graph() && self.same_part(0, IMAGE);
+        };
+        match reply {
+            Reply::Created => self.same_part(0, IMAGE),
+            Reply::Old(edge) => self.same_graph() && self.same_but_ids(edge),
+            Reply::New(edge) => {
+                self.same_but_nodes(self.old.node_count, self.new.node_count)
+                    && self.same_but_edge(edge)
+                    && self.same_but_pair(edge)
+                    && self.same_lists(0, 0)
+            }
+            Reply::Sorted => { self.same_but_stars(self.new.edge_count) && self.same_lists(0, 0) }
+            Reply::WasReset => self.same_but_marks(self.new) && self.same_lists(0, 0),
+            Reply::Dangles(count) => {
+                self.same_but_marks(self.new) && self.same_lists(usize::from(count), 0)
+            }
+            Reply::Cuts { count, .. } => {
+                self.same_but_half_marks(self.new.edge_count)
+                    && self.same_lists(usize::from(count), 0)
+            }
+            Reply::Rings { count, halves, .. } => {
+                self.same_part(0, HALF_EDGES_AT)
+                    && self.same_lists(usize::from(halves), usize::from(count))
+            }
         }
     }
 }

@@ -4,12 +4,14 @@
 
 mod lines;
 mod numbers;
-mod scanning;
+mod state_table;
 mod words;
 
 use geometry::Line3D;
 pub use lines::read_call;
-pub use numbers::{Count, Number, Real, count_of, real_of};
+pub use numbers::{Number, count_of, real_of};
+pub use state_table::Table;
+use tables::PlanarGraph;
 
 // A call of one of the graph's public entries but the extraction of rings, which is lent other lists.
 #[derive(Clone, Copy)]
@@ -22,8 +24,8 @@ pub enum GraphCall {
     Reset,
 }
 
-// What a line says. `State` has the counts of nodes and edges and the stage; `Set` the number of a
-// table, the place in it, and what is put there.
+// What a line says. `State` has the counts of nodes and edges and the stage; `Set` a table, the place in
+// it, and what is put there.
 #[derive(Clone, Copy)]
 pub enum Call {
     Blank,
@@ -31,18 +33,18 @@ pub enum Call {
     Graph(GraphCall),
     Rings,
     Show,
-    State(u16, u16, u8),
-    Set(usize, usize, Number),
-    Short(usize),
+    State(PlanarGraph),
+    Set(Table, usize, Number),
+    Short(Table),
     List(usize),
     Holes(usize),
     Unknown,
 }
 
-// A line's call, where the line ends, and where the next one begins.
+// A text's first line without its end, the call that it is, and the text behind it.
 #[derive(Clone, Copy)]
-pub struct Read {
+pub struct Read<'a> {
     pub call: Call,
-    pub end: usize,
-    pub next: usize,
+    pub line: &'a [u8],
+    pub rest: &'a [u8],
 }

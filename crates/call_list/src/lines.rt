@@ -1,11 +1,12 @@
 // Lines: the call that each one is.
-ghost use Rattle.std.specs.Prelude.{◌<◌, ◌≤◌, length};
+ghost use Rattle.std.specs.Prelude.{◌≡◌, ◌-◌, ◌<◌, ◌≤◌, length, take, drop};
 
-use crate::scanning::{find_byte, is_word};
-use crate::words::{coord_after, count_after, number_after};
+use crate::state_table::{TABLES, Table};
+use crate::words::{Words, next_coord, next_count, next_number};
 use crate::{Call, GraphCall, Read};
 use geometry::Line3D;
-use tables::{MAX_EDGES, MAX_HALF_EDGES};
+use std::str;
+use tables::{MAX_EDGES, MAX_HALF_EDGES, PlanarGraph};
 
 // A list is lent with a length below this: at most an entry for each half-edge.
 const LENGTHS: u64 = (MAX_HALF_EDGES + 1) as u64;
@@ -13,181 +14,107 @@ const LENGTHS: u64 = (MAX_HALF_EDGES + 1) as u64;
 // The hole list: at most a record for each edge.
 const HOLE_LENGTHS: u64 = (MAX_EDGES + 1) as u64;
 
-// How many state tables there are.
-const TABLES: u64 = 14;
+// A count of 16 bits.
+fn next_u16(words: &mut Words<'_>) -> Option<u16> {
+    Some(next_count(words, 0x1_0000)? as u16)
+}
 
 // Two points and a line id.
-fn read_line(text: &[u8], before: usize, end: usize) -> Call
-    requires { (before ≤ end) × (end ≤ length text.now) }
-{
-    let start = coord_after(text, before, end);
-    let finish = coord_after(text, start.stop, end);
-    let id = count_after(text, finish.stop, end, 0x1_0000_0000);
-    if start.clear && finish.clear && id.clear && id.stop == end {
-        let from = start.coord;
-        let to = finish.coord;
-        return Call::Graph(GraphCall::Add(Line3D {
-            start: from,
-            end: to,
-            line_id: id.value as u32,
-        }));
-    }
-    Call::Unknown
+fn read_line(words: &mut Words<'_>) -> Option<Call> {
+    let start = next_coord(words)?;
+    let end = next_coord(words)?;
+    let line_id = next_count(words, 0x1_0000_0000)? as u32;
+    Some(Call::Graph(GraphCall::Add(Line3D {
+        start,
+        end,
+        line_id,
+    })))
 }
 
 // The small state.
-fn read_state(text: &[u8], before: usize, end: usize) -> Call
-    requires { (before ≤ end) × (end ≤ length text.now) }
-{
-    let nodes = count_after(text, before, end, 0x1_0000);
-    let edges = count_after(text, nodes.stop, end, 0x1_0000);
-    let stage = count_after(text, edges.stop, end, 0x100);
-    if nodes.clear && edges.clear && stage.clear && stage.stop == end {
-        return Call::State(nodes.value as u16, edges.value as u16, stage.value as u8);
-    }
-    Call::Unknown
-}
-
-// A table, a place, and a number.
-fn read_entry(text: &[u8], before: usize, end: usize) -> Call
-    requires { (before ≤ end) × (end ≤ length text.now) }
-{
-    let table = count_after(text, before, end, TABLES);
-    let place = count_after(text, table.stop, end, 0x1_0000);
-    let word = number_after(text, place.stop, end);
-    if table.clear && place.clear && word.stop == end {
-        let number = word.number;
-        return Call::Set(table.value as usize, place.value as usize, number);
-    }
-    Call::Unknown
+fn read_state(words: &mut Words<'_>) -> Option<Call> {
+    let node_count = next_u16(words)?;
+    let edge_count = next_u16(words)?;
+    let stage = next_count(words, 0x100)? as u8;
+    Some(Call::State(PlanarGraph {
+        node_count,
+        edge_count,
+        stage,
+    }))
 }
 
 // The number of a table.
-fn read_short(text: &[u8], before: usize, end: usize) -> Call
-    requires { (before ≤ end) × (end ≤ length text.now) }
-{
-    let table = count_after(text, before, end, TABLES);
-    if table.clear && table.stop == end {
-        return Call::Short(table.value as usize);
-    }
-    Call::Unknown
+fn next_table(words: &mut Words<'_>) -> Option<Table> {
+    let number = next_count(words, TABLES as u64)?;
+    Some(Table::ALL[number as usize])
 }
 
-// The length of the lists.
-fn read_length(text: &[u8], before: usize, end: usize) -> Call
-    requires { (before ≤ end) × (end ≤ length text.now) }
-{
-    let entries = count_after(text, before, end, LENGTHS);
-    if entries.clear && entries.stop == end {
-        return Call::List(entries.value as usize);
-    }
-    Call::Unknown
+// A table, a place, and a number.
+fn read_entry(words: &mut Words<'_>) -> Option<Call> {
+    let table = next_table(words)?;
+    let place = next_u16(words)?;
+    let number = next_number(words)?;
+    Some(Call::Set(table, usize::from(place), number))
 }
 
-// The length of the hole list.
-fn read_holes(text: &[u8], before: usize, end: usize) -> Call
-    requires { (before ≤ end) × (end ≤ length text.now) }
-{
-    let records = count_after(text, before, end, HOLE_LENGTHS);
-    if records.clear && records.stop == end {
-        return Call::Holes(records.value as usize);
-    }
-    Call::Unknown
+// The length of a list.
+fn next_length(words: &mut Words<'_>, limit: u64) -> Option<usize> {
+    Some(next_count(words, limit)? as usize)
 }
 
-// A call whose name is followed by numbers.
-fn read_numbered(text: &[u8], at: usize, stop: usize, end: usize) -> Call
-    requires { (at ≤ stop) × (stop ≤ end) × (end ≤ length text.now) }
-{
-    if is_word(text, at, stop, b"add") {
-        return read_line(text, stop, end);
+// A call's name, and the numbers behind it where it takes any.
+fn read_named(name: &[u8], words: &mut Words<'_>) -> Option<Call> {
+    match name {
+        b"create" => Some(Call::Graph(GraphCall::Create)),
+        b"add" => read_line(words),
+        b"sort" => Some(Call::Graph(GraphCall::Sort)),
+        b"prune" => Some(Call::Graph(GraphCall::Prune)),
+        b"cut" => Some(Call::Graph(GraphCall::Cut)),
+        b"rings" => Some(Call::Rings),
+        b"reset" => Some(Call::Graph(GraphCall::Reset)),
+        b"show" => Some(Call::Show),
+        b"graph" => read_state(words),
+        b"set" => read_entry(words),
+        b"short" => next_table(words).map(Call::Short),
+        b"list" => next_length(words, LENGTHS).map(Call::List),
+        b"holes" => next_length(words, HOLE_LENGTHS).map(Call::Holes),
+        _ => None,
     }
-    if is_word(text, at, stop, b"graph") {
-        return read_state(text, stop, end);
-    }
-    if is_word(text, at, stop, b"set") {
-        return read_entry(text, stop, end);
-    }
-    if is_word(text, at, stop, b"short") {
-        return read_short(text, stop, end);
-    }
-    if is_word(text, at, stop, b"list") {
-        return read_length(text, stop, end);
-    }
-    if is_word(text, at, stop, b"holes") {
-        return read_holes(text, stop, end);
-    }
-    Call::Unknown
 }
 
-// A call whose name is the whole line.
-fn read_plain(text: &[u8], at: usize, end: usize) -> Call
-    requires { (at ≤ end) × (end ≤ length text.now) }
-{
-    if is_word(text, at, end, b"create") {
-        return Call::Graph(GraphCall::Create);
+// The call of a line of words, which has to be read whole.
+fn read_words(line: &[u8]) -> Option<Call> {
+    let mut words = str::from_utf8(line).ok()?.split(' ');
+    let name = words.next()?;
+    let call = read_named(name.as_bytes(), &mut words)?;
+    if words.next().is_some() {
+        return None;
     }
-    if is_word(text, at, end, b"sort") {
-        return Call::Graph(GraphCall::Sort);
-    }
-    if is_word(text, at, end, b"prune") {
-        return Call::Graph(GraphCall::Prune);
-    }
-    if is_word(text, at, end, b"cut") {
-        return Call::Graph(GraphCall::Cut);
-    }
-    if is_word(text, at, end, b"rings") {
-        return Call::Rings;
-    }
-    if is_word(text, at, end, b"reset") {
-        return Call::Graph(GraphCall::Reset);
-    }
-    if is_word(text, at, end, b"show") {
-        return Call::Show;
-    }
-    Call::Unknown
+    Some(call)
 }
 
-// The call of the line from `at` to `end`.
-fn call_in(text: &[u8], at: usize, end: usize) -> Call
-    requires { (at ≤ end) × (end ≤ length text.now) }
-{
-    if at == end {
-        return Call::Blank;
+// The call that a line is.
+fn call_of(line: &[u8]) -> Call {
+    match line {
+        [] => Call::Blank,
+        [b'#', ..] => Call::Comment,
+        _ => read_words(line).unwrap_or(Call::Unknown),
     }
-    if text[at] == b'#' {
-        return Call::Comment;
-    }
-    let stop = find_byte(text, at, end, b' ');
-    if stop == end {
-        return read_plain(text, at, end);
-    }
-    read_numbered(text, at, stop, end)
 }
 
-// The call at `at`. Past the last line it is `Blank`.
-pub fn read_call(text: &[u8], at: usize) -> Read
-    ensures { at < length text.now → (at ≤ result.end) × (result.end ≤ length text.now) × (at < result.next) × (result.next ≤ length text.now) }
+// The first line of a text, and the text behind it. The empty text's line is `Blank`.
+pub fn read_call(text: &[u8]) -> Read<'_>
+    ensures line { result.line.now ≡ take (length result.line.now) text.now }
+    ensures rest { result.rest.now ≡ drop (length text.now - length result.rest.now) text.now }
+    ensures shorter { 0 < length text.now → length result.rest.now < length text.now }
 {
-    if at < text.len() {
-        let end = find_byte(text, at, text.len(), b'\n');
-        let call = call_in(text, at, end);
-        if end < text.len() {
-            return Read {
-                call,
-                end,
-                next: end + 1,
-            };
-        }
-        return Read {
-            call,
-            end,
-            next: end,
-        };
-    }
+    let (line, rest) = match text.iter().position(|b| *b == b'\n') {
+        Some(end) => (&text[..end], &text[end + 1..]),
+        None => (text, &text[text.len()..]),
+    };
     Read {
-        call: Call::Blank,
-        end: at,
-        next: at,
+        call: call_of(line),
+        line,
+        rest,
     }
 }

@@ -2,21 +2,18 @@
 #![tactic(auto)]
 
 use cycles::Census;
-use tables::{EdgeId, PlanarGraph};
+use tables::EdgeId;
 
-mod hole_lines;
-mod printing;
-mod reads;
+mod entries;
+mod floats;
 mod replies;
 mod show;
 
-pub use hole_lines::say_holes;
-pub use printing::{float_bits, say};
-pub use reads::{byte_number, id_number, mark_number, number};
-pub use replies::{end_line, say_reply, say_rings};
+pub use floats::float_bits;
+pub use replies::{say_holes, say_reply, say_rings};
 pub use show::show_state;
 
-// The reply of a call.
+// The reply of a call that was not refused.
 #[derive(Clone, Copy)]
 pub enum Reply {
     Created,
@@ -25,14 +22,15 @@ pub enum Reply {
     Sorted,
     WasReset,
     Dangles(u16),
-    Cuts(u16, Census),
-    Rings(u16, Census, u16, u16, u16),
-    Refused(u64),
-}
-
-// The counts and the stage after a call, and its reply.
-#[derive(Clone, Copy)]
-pub struct Outcome {
-    pub graph: PlanarGraph,
-    pub reply: Reply,
+    Cuts {
+        count: u16,
+        census: Census,
+    },
+    Rings {
+        count: u16,
+        census: Census,
+        comparisons: u16,
+        halves: u16,
+        holes: u16,
+    },
 }

@@ -1,152 +1,118 @@
 // The state as lines of text: the counts and the stage, a line for each node, a line for each edge.
-use crate::printing::{say, say_float, say_labelled, say_spaced};
-use crate::reads::{byte_number, float_at, id_at, mark_at, number, number_at};
-use std::io;
+use crate::entries::entry;
+use crate::floats::Printed;
+use call_lending::Slices;
 use std::io::Write;
+use std::{fmt, io};
 use tables::{
-    DEGREES, EdgeId, HALF_MARKS, LINKS, LIST_PLACES, MAX_PAIRS, NODES_Y, NODES_Z, NodeId, PAIR_IDS,
-    PlanarGraph, SEGMENTS, TARGETS, wide,
+    DEGREES, HALF_MARKS, LINKS, LIST_PLACES, MAX_PAIRS, NODES_Y, NODES_Z, PAIR_IDS, PlanarGraph,
+    SEGMENTS, TARGETS,
 };
 
 // The half-edges that start at a node, in the order of the star table.
-fn say_star<W: Write>(
-    out: &mut W,
-    node: u64,
+#[derive(Clone, Copy)]
+struct Star<'a> {
+    slices: &'a Slices,
+    node: u16,
     halves: usize,
-    numbers: &[u16],
-    stars: &[u16],
-) -> io::Result<()> {
-    for i in 0..halves {
-        let half_edge = number_at(stars, i);
-        if number_at(numbers, half_edge as usize) == node {
-            say_spaced(out, half_edge)?;
+}
+
+impl fmt::Display for Star<'_> {
+    fn fmt<W: fmt::Write>(&self, f: &mut fmt::Formatter<W>) -> fmt::Result {
+        for i in 0..self.halves {
+            let half_edge = entry(&self.slices.stars, i);
+            if entry(&self.slices.numbers, usize::from(half_edge)) == self.node {
+                write!(f, " {half_edge}")?;
+            }
         }
+        Ok(())
     }
-    Ok(())
 }
 
-fn say_node<W: Write>(
-    out: &mut W,
-    node: NodeId,
-    halves: usize,
-    floats: &[f64],
-    numbers: &[u16],
-    stars: &[u16],
-    marks: &[bool],
-) -> io::Result<()> {
-    let n = wide(node.0);
-    say_labelled(out, b"node ", number(node.0))?;
-    say_float(out, float_at(floats, n))?;
-    say_float(out, float_at(floats, NODES_Y + n))?;
-    say_float(out, float_at(floats, NODES_Z + n))?;
-    say_labelled(out, b" degree ", number_at(stars, DEGREES + n))?;
-    say_labelled(out, b" marked ", mark_at(marks, n))?;
-    say(out, b" star")?;
-    say_star(out, number(node.0), halves, numbers, stars)?;
-    say(out, b"\n")
-}
-
-fn say_nodes<W: Write>(
-    out: &mut W,
-    graph: PlanarGraph,
-    floats: &[f64],
-    numbers: &[u16],
-    stars: &[u16],
-    marks: &[bool],
-) -> io::Result<()> {
-    let nodes = graph.node_count;
-    let halves = 2 * wide(graph.edge_count);
-    for i in 0..nodes {
-        say_node(out, NodeId(i), halves, floats, numbers, stars, marks)?;
-    }
-    Ok(())
+fn show_node<W: Write>(out: &mut W, slices: &Slices, node: u16, halves: usize) -> io::Result<()> {
+    let n = usize::from(node);
+    let x = Printed(entry(&slices.floats, n));
+    let y = Printed(entry(&slices.floats, NODES_Y + n));
+    let z = Printed(entry(&slices.floats, NODES_Z + n));
+    let degree = entry(&slices.stars, DEGREES + n);
+    let marked = u8::from(entry(&slices.marks, n));
+    let star = Star {
+        slices,
+        node,
+        halves,
+    };
+    write!(out, "node {node} {x} {y} {z}")?;
+    writeln!(out, " degree {degree} marked {marked} star{star}")
 }
 
 // The six floats of a segment.
-fn say_segment<W: Write>(out: &mut W, edge: EdgeId, floats: &[f64]) -> io::Result<()> {
-    let at = SEGMENTS + 6 * wide(edge.0);
-    say_float(out, float_at(floats, at))?;
-    say_float(out, float_at(floats, at + 1))?;
-    say_float(out, float_at(floats, at + 2))?;
-    say_float(out, float_at(floats, at + 3))?;
-    say_float(out, float_at(floats, at + 4))?;
-    say_float(out, float_at(floats, at + 5))
+#[derive(Clone, Copy)]
+struct Segment<'a> {
+    slices: &'a Slices,
+    edge: u16,
 }
 
-// Where the first half of an edge starts and ends, and the marks of both.
-fn say_halves<W: Write>(
-    out: &mut W,
-    edge: EdgeId,
-    numbers: &[u16],
-    marks: &[bool],
-) -> io::Result<()> {
-    let h = 2 * wide(edge.0);
-    say_labelled(out, b" ends ", number_at(numbers, h))?;
-    say_spaced(out, number_at(numbers, TARGETS + h))?;
-    say_labelled(out, b" marked ", mark_at(marks, HALF_MARKS + h))?;
-    say_spaced(out, mark_at(marks, HALF_MARKS + h + 1))
+impl fmt::Display for Segment<'_> {
+    fn fmt<W: fmt::Write>(&self, f: &mut fmt::Formatter<W>) -> fmt::Result {
+        let first = SEGMENTS + 6 * usize::from(self.edge);
+        for i in 0..6 {
+            let x = entry(&self.slices.floats, first + i);
+            write!(f, " {}", Printed(x))?;
+        }
+        Ok(())
+    }
 }
 
 // The line ids behind an edge, from the place of its list on; a list that does not end stops after as many
 // as there are pairs.
-fn say_ids<W: Write>(out: &mut W, edge: EdgeId, numbers: &[u16], ids: &[u32]) -> io::Result<()> {
-    let mut at = number_at(numbers, LIST_PLACES + wide(edge.0)) as usize;
-    for _ in 0..MAX_PAIRS {
-        if MAX_PAIRS <= at {
-            return Ok(());
+#[derive(Clone, Copy)]
+struct LineIds<'a> {
+    slices: &'a Slices,
+    first: usize,
+}
+
+impl fmt::Display for LineIds<'_> {
+    fn fmt<W: fmt::Write>(&self, f: &mut fmt::Formatter<W>) -> fmt::Result {
+        let mut at = self.first;
+        for _ in 0..MAX_PAIRS {
+            if MAX_PAIRS <= at {
+                return Ok(());
+            }
+            write!(f, " {}", entry(&self.slices.ids, PAIR_IDS + at))?;
+            at = usize::from(entry(&self.slices.numbers, LINKS + at));
         }
-        say_spaced(out, id_at(ids, PAIR_IDS + at))?;
-        at = number_at(numbers, LINKS + at) as usize;
+        Ok(())
+    }
+}
+
+// With the nodes at which the first half of the edge starts and ends, and the marks of both halves.
+fn show_edge<W: Write>(out: &mut W, slices: &Slices, edge: u16) -> io::Result<()> {
+    let k = usize::from(edge);
+    let h = 2 * k;
+    let line = Segment { slices, edge };
+    let id = entry(&slices.ids, k);
+    let from = entry(&slices.numbers, h);
+    let to = entry(&slices.numbers, TARGETS + h);
+    let mark = u8::from(entry(&slices.marks, HALF_MARKS + h));
+    let twin_mark = u8::from(entry(&slices.marks, HALF_MARKS + h + 1));
+    let first = usize::from(entry(&slices.numbers, LIST_PLACES + k));
+    let ids = LineIds { slices, first };
+    write!(out, "edge {edge} line{line} id {id} ends {from} {to}")?;
+    writeln!(out, " marked {mark} {twin_mark} ids{ids}")
+}
+
+pub fn show_state<W: Write>(out: &mut W, graph: PlanarGraph, slices: &Slices) -> io::Result<()> {
+    let PlanarGraph {
+        node_count,
+        edge_count,
+        stage,
+    } = graph;
+    writeln!(out, "graph {node_count} {edge_count} {stage}")?;
+    for node in 0..node_count {
+        show_node(out, slices, node, 2 * usize::from(edge_count))?;
+    }
+    for edge in 0..edge_count {
+        show_edge(out, slices, edge)?;
     }
     Ok(())
-}
-
-fn say_edge<W: Write>(
-    out: &mut W,
-    edge: EdgeId,
-    floats: &[f64],
-    numbers: &[u16],
-    marks: &[bool],
-    ids: &[u32],
-) -> io::Result<()> {
-    say_labelled(out, b"edge ", number(edge.0))?;
-    say(out, b" line")?;
-    say_segment(out, edge, floats)?;
-    say_labelled(out, b" id ", id_at(ids, wide(edge.0)))?;
-    say_halves(out, edge, numbers, marks)?;
-    say(out, b" ids")?;
-    say_ids(out, edge, numbers, ids)?;
-    say(out, b"\n")
-}
-
-fn say_edges<W: Write>(
-    out: &mut W,
-    graph: PlanarGraph,
-    floats: &[f64],
-    numbers: &[u16],
-    marks: &[bool],
-    ids: &[u32],
-) -> io::Result<()> {
-    let edges = graph.edge_count;
-    for i in 0..edges {
-        say_edge(out, EdgeId(i), floats, numbers, marks, ids)?;
-    }
-    Ok(())
-}
-
-pub fn show_state<W: Write>(
-    out: &mut W,
-    graph: PlanarGraph,
-    floats: &[f64],
-    numbers: &[u16],
-    stars: &[u16],
-    marks: &[bool],
-    ids: &[u32],
-) -> io::Result<()> {
-    say_labelled(out, b"graph ", number(graph.node_count))?;
-    say_spaced(out, number(graph.edge_count))?;
-    say_spaced(out, byte_number(graph.stage))?;
-    say(out, b"\n")?;
-    say_nodes(out, graph, floats, numbers, stars, marks)?;
-    say_edges(out, graph, floats, numbers, marks, ids)
 }

@@ -9,9 +9,8 @@ use Rattle.rules.specs.State.{State, roomy, sound}
 use Rattle.rules.specs.Adding.{Outcome, Nothing, demand}
 use Rattle.rules.specs.Stages.{step}
 use Rattle.tables.specs.declared.Refusal.TheVariants.{TableTooShort, Unsound, WrongStage}
-use Rattle.calls.specs.Checks.{sound_check, stage_check}
+use Rattle.calls.specs.Checks.{sound_check, stage_check, passed, due}
 use Rattle.calls.specs.Replies.{left, check_reply}
-use Rattle.calls.specs.declared.checks.Checked.TheVariants.{Passed, Refused}
 
 -- a call that does nothing and succeeds
 abbrev idle : State → Outcome Nothing Nothing
@@ -20,7 +19,7 @@ idle s = left (success (record {})) s
 pub sound-numbers : (l : Limits) (s : State) → check_reply (sound_check l s) ≡ (demand (roomy l s) 6 s (record {}) (demand (sound l s) 7 s (record {}) (idle s))).reply
 sound-numbers l s = go (roomy l s) (sound l s)
   where
-    go : (a b : Bool) → check_reply (cond a (cond b Passed (Refused Unsound)) (Refused TableTooShort)) ≡ (demand a 6 s (record {}) (demand b 7 s (record {}) (idle s))).reply
+    go : (a b : Bool) → check_reply (cond a (cond b passed (due Unsound)) (due TableTooShort)) ≡ (demand a 6 s (record {}) (demand b 7 s (record {}) (idle s))).reply
     go false b = refl
     go true false = refl
     go true true = refl
@@ -28,7 +27,7 @@ sound-numbers l s = go (roomy l s) (sound l s)
 pub stage-numbers : (l : Limits) (stage : ℕ) (s : State) → check_reply (stage_check l stage s) ≡ (step l stage s (record {}) (idle s)).reply
 stage-numbers l stage s = go (roomy l s) (sound l s) (eqb s.stage stage)
   where
-    go : (a b c : Bool) → check_reply (cond a (cond b (cond c Passed (Refused WrongStage)) (Refused Unsound)) (Refused TableTooShort))
+    go : (a b c : Bool) → check_reply (cond a (cond b (cond c passed (due WrongStage)) (due Unsound)) (due TableTooShort))
         ≡ (demand a 6 s (record {}) (demand b 7 s (record {}) (demand c 5 s (record {}) (idle s)))).reply
     go false b c = refl
     go true false c = refl

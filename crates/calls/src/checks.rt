@@ -9,14 +9,7 @@ use crate::room::has_room;
 use soundness::is_sound;
 use tables::{PlanarGraph, Refusal};
 
-// The first test that fails, or none.
-#[derive(Clone, Copy)]
-pub enum Checked {
-    Passed,
-    Refused(Refusal),
-}
-
-// Numbers 6 and 7.
+// Numbers 6 and 7: the first test that fails, or none.
 pub fn check_sound(
     graph: PlanarGraph,
     floats: &[f64],
@@ -24,16 +17,16 @@ pub fn check_sound(
     stars: &[u16],
     marks: &[bool],
     ids: &[u32],
-) -> Checked
+) -> Result<(), Refusal>
     ensures { result ≡ sound_check limits (state_in limits graph floats.now numbers.now stars.now marks.now ids.now) }
 {
     if has_room(floats, numbers, stars, marks, ids) {
         if is_sound(graph, floats, numbers, stars, marks, ids) {
-            return Checked::Passed;
+            return Ok(());
         }
-        return Checked::Refused(Refusal::Unsound);
+        return Err(Refusal::Unsound);
     }
-    Checked::Refused(Refusal::TableTooShort)
+    Err(Refusal::TableTooShort)
 }
 
 // Numbers 6, 7 and 5: the graph is in the stage that the call needs.
@@ -45,15 +38,12 @@ pub fn check_stage(
     stars: &[u16],
     marks: &[bool],
     ids: &[u32],
-) -> Checked
+) -> Result<(), Refusal>
     ensures { result ≡ stage_check limits stage (state_in limits graph floats.now numbers.now stars.now marks.now ids.now) }
 {
-    let sound = check_sound(graph, floats, numbers, stars, marks, ids);
-    if let Checked::Refused(why) = sound {
-        return Checked::Refused(why);
-    }
+    check_sound(graph, floats, numbers, stars, marks, ids)?;
     if graph.stage == stage {
-        return Checked::Passed;
+        return Ok(());
     }
-    Checked::Refused(Refusal::WrongStage)
+    Err(Refusal::WrongStage)
 }

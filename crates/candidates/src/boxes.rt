@@ -5,7 +5,7 @@ ghost use Rattle.corners.specs.Boxes.{SidesWithin};
 ghost use Rattle.candidates.specs.Candidates.{numbers_of, number_at, numbers_by, beyond, in_box_lem};
 
 use corners::Sides;
-use tables::{MAX_SHAPED, wide};
+use tables::MAX_SHAPED;
 
 // The places of a candidate's numbers: least x, greatest x, least y, greatest y, doubled area.
 pub const LOW_X: usize = 0;
@@ -40,10 +40,10 @@ pub fn put_numbers(
     ensures { numbers.new ≡ sets numbers.old (numbers_of * j) (numbers_by xs.now ys.now sides doubled) }
 {
     let place = NUMBERS * j;
-    let low_x = xs[wide(sides.left)];
-    let high_x = xs[wide(sides.right)];
-    let low_y = ys[wide(sides.low)];
-    let high_y = ys[wide(sides.high)];
+    let low_x = xs[usize::from(sides.left)];
+    let high_x = xs[usize::from(sides.right)];
+    let low_y = ys[usize::from(sides.low)];
+    let high_y = ys[usize::from(sides.high)];
     numbers[place + LOW_X] = low_x;
     numbers[place + HIGH_X] = high_x;
     numbers[place + LOW_Y] = low_y;

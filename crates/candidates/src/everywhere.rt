@@ -5,7 +5,7 @@ ghost use Rattle.inside.specs.Spots.{NodesWithin};
 ghost use Rattle.candidates.specs.Candidates.{nodes_at, PassesAll, Part};
 
 use corners::stamp_nodes;
-use tables::{MAX_NODES, wide};
+use tables::MAX_NODES;
 
 // The stamp of a node that the ring passes.
 const PASSED: u16 = 1;
@@ -15,14 +15,7 @@ fn all_stamped(stamps: &[u16], node_count: usize) -> bool
     requires { node_count ≤ length stamps.now }
     ensures { result ≡ true → (n : ℕ) → n < node_count → get_or stamps.now n 0 ≡ 1 }
 {
-    let mut n = 0;
-    while n < node_count {
-        if stamps[n] != PASSED {
-            return false;
-        }
-        n += 1;
-    }
-    true
+    stamps[..node_count].iter().all(|&stamp| stamp == PASSED)
 }
 
 // Whether ring i passes all nodes of the graph. One that has fewer half-edges does not, and most have.
@@ -37,12 +30,12 @@ pub fn passes_all(
     requires nodes_within { NodesWithin (nodes_at nodes.now ring_first.now ring_length.now i) node_count × (node_count ≤ limits.nodes) }
     ensures { result ≡ true → PassesAll node_count (nodes_at nodes.now ring_first.now ring_length.now i) }
 {
-    let k = wide(i);
-    let length = wide(ring_length[k]);
+    let k = usize::from(i);
+    let length = usize::from(ring_length[k]);
     if length < node_count {
         return false;
     }
-    let first = wide(ring_first[k]);
+    let first = usize::from(ring_first[k]);
     let end = first + length;
     let mut stamps = [0u16; MAX_NODES];
     stamp_nodes(&nodes[first..end], PASSED, &mut stamps);

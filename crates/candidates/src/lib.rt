@@ -17,7 +17,6 @@ pub use boxes::{
 };
 use corners::{Sides, sides_of};
 use ring_lists::{ENCLOSED, doubled_area};
-use tables::wide;
 
 // The sides of ring i.
 pub fn sides_at(
@@ -31,9 +30,9 @@ pub fn sides_at(
     requires { Standing nodes.now xs.now ys.now ring_first.now ring_length.now i }
     ensures { Outermost xs.now ys.now (nodes_at nodes.now ring_first.now ring_length.now i) result }
 {
-    let k = wide(i);
-    let first = wide(ring_first[k]);
-    let end = first + wide(ring_length[k]);
+    let k = usize::from(i);
+    let first = usize::from(ring_first[k]);
+    let end = first + usize::from(ring_length[k]);
     sides_of(&nodes[first..end], xs, ys)
 }
 
@@ -56,7 +55,14 @@ fn put_candidate(
     ensures { Written nodes.now xs.now ys.now ring_first.now ring_length.now ring_area.now node_count i n rings.old rings.new numbers.old numbers.new }
 {
     let sides = sides_at(i, nodes, xs, ys, ring_first, ring_length);
-    put_numbers(numbers, n, sides, xs, ys, doubled_area(ring_area[wide(i)]));
+    put_numbers(
+        numbers,
+        n,
+        sides,
+        xs,
+        ys,
+        doubled_area(ring_area[usize::from(i)]),
+    );
     rings[n] = i;
     if passes_all(i, node_count, nodes, ring_first, ring_length) {
         shut_box(numbers, n);
@@ -82,9 +88,8 @@ pub fn list_enclosed(
         → Candidates rs nodes.now xs.now ys.now ring_first.now ring_length.now node_count count rings.new numbers.new result }
 {
     let mut n = 0;
-    let mut i: u16 = 0;
-    while i < count {
-        let enclosed = ring_side[wide(i)] == ENCLOSED;
+    for i in 0..count {
+        let enclosed = ring_side[usize::from(i)] == ENCLOSED;
         if enclosed {
             put_candidate(
                 i,
@@ -101,7 +106,6 @@ pub fn list_enclosed(
             );
             n += 1;
         }
-        i += 1;
     }
     n
 }

@@ -13,8 +13,9 @@ ghost use Rattle.taking.specs.Taking.{take_file_lem};
 ghost use Rattle.taking.specs.Answers.{taking_of};
 
 use record_intake::take_record;
+use std::ops::ControlFlow;
 use tables::{MAX_PAIRS, PlanarGraph};
-use taking::{Next, Taken};
+use taking::Taken;
 
 // All records of the bytes, one after another, to their end or to the first that is refused.
 pub fn take_chained(
@@ -58,7 +59,7 @@ pub fn take_chained(
         let after = turn.graph;
         let next = turn.next;
         match next {
-            Next::Ended(reply) => {
+            ControlFlow::Break(reply) => {
                 return Taken {
                     graph: after,
                     count,
@@ -66,7 +67,7 @@ pub fn take_chained(
                     reply,
                 };
             }
-            Next::Onward(size) => {
+            ControlFlow::Continue(size) => {
                 current = after;
                 place = turn.free;
                 count += 1;

@@ -9,7 +9,8 @@ use lib.Signed.{lt_z}
 use Rattle.lists.specs.Lists.{In}
 use Rattle.lists.proofs.Counts.{by_test}
 use Rattle.geometry.specs.Angle.{Point}
-use Rattle.rules.specs.Holes.{left_of, outside}
+use Rattle.std.specs.declared.option.Option.TheVariants.{None, Some}
+use Rattle.rules.specs.Holes.{left_of}
 use Rattle.rules.proofs.Orders.{Order, order_int, order_by, order_then}
 use Rattle.corners.specs.Nodes.{FirstOf, Leftmost}
 use Rattle.corners.proofs.Fronts.{in_more, in_old, in_new}
@@ -38,29 +39,20 @@ module _ (at : ℕ → Point) where
   -- ---- the leftmost of a list with one node more
 
   -- no node is the leftmost of none
-  pub leftmost-none : Leftmost at [] outside
-  leftmost-none = record {
-    empty = λ e w m. absurd (nothing w m);
-    one = λ d. absurd (d refl);
-    first = λ w m. absurd (nothing w m);
-  }
-    where
-      nothing : (w : ℕ) → In w [] → ⊥
-      nothing w m = absurd (omega arith)
+  pub leftmost-none : Leftmost at [] None
+  leftmost-none w m = absurd (omega arith)
 
-  module _ (l : List ℕ) (n x : ℕ) (known : x ≡ outside → ⊥) (left : Leftmost at l n) where
+  module _ (l : List ℕ) (x : ℕ) where
     -- the first node is
-    pub leftmost-first : n ≡ outside → Leftmost at (l ++ (x ∷ [])) x
-    leftmost-first e = record {
-      empty = λ f w m. absurd (known f);
-      one = λ d. in_new x l;
-      first = λ w m. ⊎_elim (λ k. absurd (left.empty e w k)) (λ f. subst (λ v. left_of at v x ≡ false) (sym f) (left_self x)) (in_more w x l m);
-    }
+    pub leftmost-first : Leftmost at l None → Leftmost at (l ++ (x ∷ [])) (Some x)
+    leftmost-first empty = (
+      in_new x l,
+      λ w m. ⊎_elim (λ k. absurd (empty w k)) (λ f. subst (λ v. left_of at v x ≡ false) (sym f) (left_self x)) (in_more w x l m),
+    )
 
     -- otherwise the one of the two to whose left neither lies
-    pub leftmost_of_two : (n ≡ outside → ⊥) → (r : ℕ) → FirstOf (left_of at) n x r → Leftmost at (l ++ (x ∷ [])) r
-    leftmost_of_two d r f = record {
-      empty = λ e w m. absurd (⊎_elim (λ g. d (sym g ∙ e)) (λ g. known (sym g ∙ e)) f.one);
-      one = λ e. ⊎_elim (λ g. subst (λ v. In v (l ++ (x ∷ []))) (sym g) (in_old n x l (left.one d))) (λ g. subst (λ v. In v (l ++ (x ∷ []))) (sym g) (in_new x l)) f.one;
-      first = λ w m. ⊎_elim (λ k. left-order.goes_on_lem w n r (left.first w k) f.left) (λ g. subst (λ v. left_of at v r ≡ false) (sym g) f.right) (in_more w x l m);
-    }
+    pub leftmost_of_two : (n r : ℕ) → Leftmost at l (Some n) → FirstOf (left_of at) n x r → Leftmost at (l ++ (x ∷ [])) (Some r)
+    leftmost_of_two n r left f = (
+      ⊎_elim (λ g. subst (λ v. In v (l ++ (x ∷ []))) (sym g) (in_old n x l left.0)) (λ g. subst (λ v. In v (l ++ (x ∷ []))) (sym g) (in_new x l)) f.one,
+      λ w m. ⊎_elim (λ k. left-order.goes_on_lem w n r (left.1 w k) f.left) (λ g. subst (λ v. left_of at v r ≡ false) (sym g) f.right) (in_more w x l m),
+    )

@@ -2,7 +2,9 @@
 use Rattle.std.specs.Prelude.{ℕ, ◌<◌, ◌≡◌, ◌⊎◌, Bool, false, cond, not, List, length, get_or, eqb}
 use Rattle.lists.specs.Lists.{pick, member, In}
 use Rattle.geometry.specs.Angle.{Point}
-use Rattle.rules.specs.Holes.{left_of, outside}
+use Rattle.std.specs.declared.option.Option.{Option}
+use Rattle.std.specs.declared.option.Option.TheVariants.{None, Some}
+use Rattle.rules.specs.Holes.{left_of}
 
 -- the nodes of a list have the stamp, and the others what they had
 pub record Stamped (nodes : List ℕ) (stamp : ℕ) (before after : List ℕ) : Type 0 where
@@ -20,11 +22,10 @@ pub record FirstOf (before : ℕ → ℕ → Bool) (a b r : ℕ) : Type 0 where
   pub right : before b r ≡ false
 
 -- a node of the list to whose left none of the list lies; none where the list is empty
-pub record Leftmost (at : ℕ → Point) (nodes : List ℕ) (n : ℕ) : Type 0 where
-  pub empty : n ≡ outside → (w : ℕ) → In w nodes → ⊥
-  pub one : (n ≡ outside → ⊥) → In n nodes
-  pub first : (w : ℕ) → In w nodes → left_of at w n ≡ false
+abbrev pub Leftmost : (ℕ → Point) → List ℕ → Option ℕ → Type 0
+Leftmost at nodes None = (w : ℕ) → In w nodes → ⊥
+Leftmost at nodes (Some n) = In n nodes × ((w : ℕ) → In w nodes → left_of at w n ≡ false)
 
 -- the test point: the leftmost node without the stamp
-abbrev pub TestPoint : (ℕ → Point) → List ℕ → ℕ → List ℕ → ℕ → Type 0
+abbrev pub TestPoint : (ℕ → Point) → List ℕ → ℕ → List ℕ → Option ℕ → Type 0
 TestPoint at nodes stamp stamps n = Leftmost at (unstamped stamp stamps nodes) n

@@ -5,7 +5,6 @@ ghost use Rattle.corners.specs.Boxes.{lower, higher, SidesWithin, Widened, Outer
 ghost use Rattle.inside.specs.Spots.{NodesWithin};
 
 use crate::nodes::left_of;
-use tables::wide;
 
 // The node of least x, then least y, and nodes of greatest x, least y and greatest y.
 #[derive(Clone, Copy)]
@@ -21,7 +20,7 @@ fn lesser(table: &[i64], a: u16, b: u16) -> u16
     requires { (a < length table.now) × (b < length table.now) }
     ensures { FirstOf (lower table.now) a b result }
 {
-    if table[wide(b)] < table[wide(a)] {
+    if table[usize::from(b)] < table[usize::from(a)] {
         return b;
     }
     a
@@ -32,7 +31,7 @@ fn greater(table: &[i64], a: u16, b: u16) -> u16
     requires { (a < length table.now) × (b < length table.now) }
     ensures { FirstOf (higher table.now) a b result }
 {
-    if table[wide(a)] < table[wide(b)] {
+    if table[usize::from(a)] < table[usize::from(b)] {
         return b;
     }
     a
@@ -63,10 +62,8 @@ pub fn sides_of(nodes: &[u16], xs: &[i64], ys: &[i64]) -> Sides
         low: first,
         high: first,
     };
-    let mut k = 1;
-    while k < nodes.len() {
+    for k in 1..nodes.len() {
         sides = widen(sides, nodes[k], xs, ys);
-        k += 1;
     }
     sides
 }

@@ -6,4 +6,4 @@ mod boxes;
 mod nodes;
 
 pub use boxes::{Sides, sides_of};
-pub use nodes::{NO_NODE, stamp_nodes, test_point};
+pub use nodes::{stamp_nodes, test_point};

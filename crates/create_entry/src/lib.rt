@@ -10,25 +10,18 @@ ghost use Rattle.create_entry.specs.Clause.{Creates};
 
 use tables::{PlanarGraph, Refusal};
 
-// What creating answers: the counts and the stage of an empty graph, or a refusal.
-#[derive(Clone, Copy)]
-pub enum Created {
-    Graph(PlanarGraph),
-    Refused(Refusal),
-}
-
 // Counts and stage 0 where every slice has room, for a caller that tested number 6 itself.
-pub fn create_if(room: bool) -> Created
+pub fn create_if(room: bool) -> Result<PlanarGraph, Refusal>
     ensures { result ≡ created_if room }
 {
     if room {
-        return Created::Graph(PlanarGraph {
+        return Ok(PlanarGraph {
             node_count: 0,
             edge_count: 0,
             stage: 0,
         });
     }
-    Created::Refused(Refusal::TableTooShort)
+    Err(Refusal::TableTooShort)
 }
 
 // Number 6, then counts and stage 0. No table is read or written. Where it is refused, whatever
@@ -39,7 +32,7 @@ pub fn create(
     stars: &[u16],
     marks: &[bool],
     ids: &[u32],
-) -> Created
+) -> Result<PlanarGraph, Refusal>
     ensures { (graph : PlanarGraph) → Creates
         (state_in limits graph floats.now numbers.now stars.now marks.now ids.now)
         (created_reply result)

@@ -16,8 +16,7 @@ use Rattle.rules.specs.Adding.{Outcome}
 use Rattle.rules.specs.Stages.{next, Cutting, mark_edges, cut_step}
 use Rattle.tables.specs.declared.Refusal.{Refusal}
 use Rattle.tables.specs.declared.Refusal.TheVariants.{ListTooShort}
-use Rattle.calls.specs.Checks.{stage_check}
-use Rattle.calls.specs.declared.checks.Checked.TheVariants.{Refused}
+use Rattle.calls.specs.Checks.{stage_check, due}
 use Rattle.calls.proofs.Shells.{turned_down_lem, Good, step_stops, list_stops, list_passes}
 
 -- the arrangement that a state's tables hold
@@ -33,7 +32,7 @@ cutting s out = record {
 }
 
 module _ (l : Limits) (s : State) (out : List ℕ) where
-  pub cut_stops : (why : Refusal) → Refused why ≡ stage_check l 2 s → turned_down_lem why s out ≡ cut_step l s out
+  pub cut_stops : (why : Refusal) → due why ≡ stage_check l 2 s → turned_down_lem why s out ≡ cut_step l s out
   unfolding cut_step
   cut_stops why e = step_stops l 2 s out _ why e
 

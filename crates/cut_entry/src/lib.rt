@@ -8,24 +8,15 @@ ghost use Rattle.cut_entry.specs.Clause.{Cuts};
 
 mod regions;
 
-use calls::Checked;
 use cycles::Census;
 use regions::cut_region;
-use tables::{PlanarGraph, Refusal};
+use tables::{Answer, PlanarGraph, Refusal};
 
-// What cutting answers: how many edges it listed, with V, E, cycles, C and the verdict as they were
-// before, or a refusal.
+// What cutting marked: how many cut edges, and the census taken before.
 #[derive(Clone, Copy)]
-pub enum CutReply {
-    Cuts(u16, Census),
-    Refused(Refusal),
-}
-
-// The counts and the stage after the call, and its answer.
-#[derive(Clone, Copy)]
-pub struct Cutting {
-    pub graph: PlanarGraph,
-    pub reply: CutReply,
+pub struct CutEdges {
+    pub count: u16,
+    pub census: Census,
 }
 
 // Numbers 6, 7, 5 and 8; then edges whose halves lie in one maximal ring are marked, and `out` gets
@@ -38,7 +29,7 @@ pub fn delete_cut_edges(
     marks: &mut [bool],
     ids: &[u32],
     out: &mut [u16],
-) -> Cutting
+) -> Answer<CutEdges>
     ensures { Cuts
         (state_in limits graph floats.now numbers.now stars.now marks.old ids.now)
         out.old
@@ -47,23 +38,26 @@ pub fn delete_cut_edges(
         out.new }
 {
     let checked = calls::check_stage(2, graph, floats, numbers, stars, marks, ids);
-    if let Checked::Refused(why) = checked {
-        return Cutting {
+    if let Err(why) = checked {
+        return Answer {
             graph,
-            reply: CutReply::Refused(why),
+            reply: Err(why),
         };
     }
-    if out.len() < tables::wide(graph.edge_count) {
-        return Cutting {
+    if out.len() < usize::from(graph.edge_count) {
+        return Answer {
             graph,
-            reply: CutReply::Refused(Refusal::ListTooShort),
+            reply: Err(Refusal::ListTooShort),
         };
     }
     let done = cut_region(graph, floats, numbers, stars, marks, out);
     let after = done.graph;
-    let census = done.census;
-    Cutting {
+    let cuts = CutEdges {
+        count: done.count,
+        census: done.census,
+    };
+    Answer {
         graph: after,
-        reply: CutReply::Cuts(done.count, census),
+        reply: Ok(cuts),
     }
 }

@@ -10,22 +10,20 @@ ghost use Rattle.seeds.specs.Reach.{Spreadable};
 ghost use Rattle.seeds.specs.Seeds.{Placed};
 
 use pieces::number_pieces;
-use tables::{MAX_NODES, PlanarGraph, wide};
+use tables::{MAX_NODES, PlanarGraph};
 
 // V: the nodes with an active half-edge. These are the nodes in a piece, and any other has number 0.
 fn count_vertices(nodes: u16, pieces: &[u16]) -> u16
     requires { (nodes ≤ limits.nodes) × (nodes ≤ length pieces.now) }
     ensures { result ≡ length (below (λ n. ltb 0 (get_or pieces.now n 0)) nodes) }
 {
-    let n = wide(nodes);
+    let n = usize::from(nodes);
     let mut count: u16 = 0;
-    let mut k = 0;
-    while k < n {
+    for k in 0..n {
         let placed = 0 < pieces[k];
         if placed {
             count += 1;
         }
-        k += 1;
     }
     count
 }
@@ -35,15 +33,13 @@ fn count_edges(edges: u16, dir_edges_marked: &[bool]) -> u16
     requires { (edges ≤ limits.edges) × (2 * edges ≤ length dir_edges_marked.now) }
     ensures { result ≡ length (below (λ k. unmarked dir_edges_marked.now (2 * k) && unmarked dir_edges_marked.now (2 * k + 1)) edges) }
 {
-    let n = wide(edges);
+    let n = usize::from(edges);
     let mut count: u16 = 0;
-    let mut k = 0;
-    while k < n {
+    for k in 0..n {
         let active = !dir_edges_marked[2 * k] & !dir_edges_marked[2 * k + 1];
         if active {
             count += 1;
         }
-        k += 1;
     }
     count
 }

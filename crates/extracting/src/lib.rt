@@ -64,13 +64,13 @@ pub fn extract_grouped(
     );
     let count = listed.count;
     let census = listed.census;
-    let total = 2 * tables::wide(census.edges);
+    let total = 2 * usize::from(census.edges);
     let made = name_rings(
         &half_edges[..total],
         &keys,
         ring_first,
         ring_length,
-        tables::wide(count),
+        usize::from(count),
         ring_area,
         ring_face,
     );

@@ -6,18 +6,16 @@ ghost use Rattle.faces.specs.Numbers.{index_of, Once, rings_at, face_numbers, co
 
 use crate::order::sort_rings;
 use ring_keys::write_turns;
-use tables::{MAX_HALF_EDGES, wide};
+use tables::MAX_HALF_EDGES;
 
 // Each ring's number is its place in the order.
 fn write_places(order: &[u16], count: usize, faces: &mut [u16])
     requires { (count ≤ 65536) × (count ≤ length order.now) × (count ≤ length faces.old) × Once count (take count order.now) }
     ensures { faces.new ≡ over (map (λ i. index_of i (take count order.now)) (upto count)) faces.old }
 {
-    let mut p = 0;
-    while p < count {
-        let ring = wide(order[p]);
+    for p in 0..count {
+        let ring = usize::from(order[p]);
         faces[ring] = p as u16;
-        p += 1;
     }
 }
 

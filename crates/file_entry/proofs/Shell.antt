@@ -5,14 +5,13 @@ use mathlib.Core.List.{List}
 use Rattle.rules.specs.Limits.{Limits}
 use Rattle.rules.specs.State.{State}
 use Rattle.tables.specs.declared.Refusal.{Refusal}
-use Rattle.calls.specs.Checks.{stage_check}
-use Rattle.calls.specs.declared.checks.Checked.TheVariants.{Refused}
+use Rattle.calls.specs.Checks.{stage_check, due}
 use Rattle.calls.proofs.Shells.{turned_down_lem, Good, step_stops, step-passes}
 use Rattle.taking.specs.Taking.{take_file_lem}
 use Rattle.file_taking.specs.FileAdding.{records_taken, add_records_lem}
 
 module _ (l : Limits) (bytes : List ℕ) (s : State) where
-  pub records_stop : (why : Refusal) → Refused why ≡ stage_check l 0 s → turned_down_lem why s (record {}) ≡ add_records_lem l bytes s
+  pub records_stop : (why : Refusal) → due why ≡ stage_check l 0 s → turned_down_lem why s (record {}) ≡ add_records_lem l bytes s
   unfolding add_records_lem
   records_stop why e = step_stops l 0 s (record {}) _ why e
 

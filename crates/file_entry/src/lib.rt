@@ -7,9 +7,9 @@ ghost use Rattle.tables.specs.Regions.{state_in};
 ghost use Rattle.file_entry.specs.Clause.{AddsRecords};
 ghost use Rattle.file_taking.specs.Replies.{file_reply};
 
-use calls::{Checked, check_stage};
-use file_taking::{FileAdded, FileReply, take_file};
-use tables::PlanarGraph;
+use calls::check_stage;
+use file_taking::{FileTaken, take_file};
+use tables::{Answer, PlanarGraph};
 
 // Numbers 6, 7 and 5 refuse and change nothing. Else segments are added, and other records passed over,
 // up to the file's end or to the first record that is refused: those before it stay, so that refusal is
@@ -22,17 +22,17 @@ pub fn add_records(
     stars: &mut [u16],
     marks: &mut [bool],
     ids: &mut [u32],
-) -> FileAdded
+) -> Answer<FileTaken>
     ensures { AddsRecords bytes.now
         (state_in limits graph floats.old numbers.old stars.old marks.old ids.old)
         (file_reply result.reply)
         (state_in limits result.graph floats.new numbers.new stars.new marks.new ids.new) }
 {
     let checked = check_stage(0, graph, floats, numbers, stars, marks, ids);
-    if let Checked::Refused(why) = checked {
-        return FileAdded {
+    if let Err(why) = checked {
+        return Answer {
             graph,
-            reply: FileReply::Refused(why),
+            reply: Err(why),
         };
     }
     take_file(graph, bytes, floats, numbers, stars, marks, ids)

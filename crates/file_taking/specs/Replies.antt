@@ -1,11 +1,12 @@
 -- Document 01's number and values for each case of the reply.
-use Rattle.geometry.specs.Reply.{Reply, refused, success}
-use Rattle.tables.specs.Refusals.{refusal_number_lem}
-use Rattle.file_taking.specs.FileAdding.{Records}
-use Rattle.file_taking.specs.declared.FileReply.{FileReply}
-use Rattle.file_taking.specs.declared.FileReply.TheVariants.{Taken, Refused}
+use Rattle.std.specs.Prelude.{Result}
+use Rattle.geometry.specs.Reply.{Reply}
+use Rattle.tables.specs.Refusals.{reply_by}
+use Rattle.tables.specs.declared.Refusal.{Refusal}
+use Rattle.taking.specs.Answers.{reply_of}
+use Rattle.file_taking.specs.FileAdding.{Records, end_number_lem}
+use Rattle.file_taking.specs.declared.FileTaken.{FileTaken}
 
 -- how many records were taken and what ended it, or the number of a refusal
-abbrev pub file_reply : FileReply → Reply Records
-file_reply (Taken n number) = success (record { taken = n; number = number })
-file_reply (Refused why) = refused (refusal_number_lem why)
+abbrev pub file_reply : Result FileTaken Refusal → Reply Records
+file_reply = reply_by (λ taken. record { taken = taken.count; number = end_number_lem (reply_of taken.ended) })

@@ -11,31 +11,23 @@ ghost use Rattle.taking.specs.Answers.{reply_of};
 ghost use Rattle.file_taking.specs.FileAdding.{end_number_lem, records_taken};
 ghost use Rattle.file_taking.specs.Replies.{file_reply};
 
-use tables::{PlanarGraph, Refusal};
-use taking::TakeReply;
+use tables::{Answer, PlanarGraph};
+use taking::{TakeRefusal, take_number};
 
-// What is answered: how many records were taken, those passed over among them, and the number of the
-// refusal that ended it, 0 where the file did; or the refusal of the call, which added none.
+// How many records were taken, those passed over among them, and what ended it: the file, or a refusal.
 #[derive(Clone, Copy)]
-pub enum FileReply {
-    Taken(usize, u32),
-    Refused(Refusal),
-}
-
-// The counts and the stage after the call, and its answer.
-#[derive(Clone, Copy)]
-pub struct FileAdded {
-    pub graph: PlanarGraph,
-    pub reply: FileReply,
+pub struct FileTaken {
+    pub count: usize,
+    pub ended: Result<(), TakeRefusal>,
 }
 
 // The number of what ended the taking of records, 0 where the file did.
-fn end_number(reply: TakeReply) -> u32
+pub fn end_number(reply: Result<(), TakeRefusal>) -> u32
     ensures { result ≡ end_number_lem (reply_of reply) }
 {
     match reply {
-        TakeReply::Refused(number) => number,
-        TakeReply::Done => 0,
+        Ok(()) => 0,
+        Err(why) => take_number(why),
     }
 }
 
@@ -49,17 +41,19 @@ pub fn take_file(
     stars: &mut [u16],
     marks: &mut [bool],
     ids: &mut [u32],
-) -> FileAdded
+) -> Answer<FileTaken>
     requires { Ready limits (state_in limits graph floats.old numbers.old stars.old marks.old ids.old) }
     ensures { left (file_reply result.reply) (state_in limits result.graph floats.new numbers.new stars.new marks.new ids.new)
         ≡ records_taken (take_file_lem limits bytes.now (state_in limits graph floats.old numbers.old stars.old marks.old ids.old)) }
 {
     let taken = intake::take_records(graph, bytes, floats, numbers, stars, marks, ids);
     let after = taken.graph;
-    let count = taken.count;
-    let reply = taken.reply;
-    FileAdded {
+    let file = FileTaken {
+        count: taken.count,
+        ended: taken.reply,
+    };
+    Answer {
         graph: after,
-        reply: FileReply::Taken(count, end_number(reply)),
+        reply: Ok(file),
     }
 }

@@ -1,6 +1,6 @@
 -- The test for a coordinate by a sum: from 2 to the power 52 to 2 to the power 53 floats have no place for a fraction, so x comes back from a sum in there
 -- exactly where it is whole.
-use Rattle.std.proofs.Common.{◌≡◌, ℕ, zero, suc, ◌+◌, ◌*◌, ◌%◌, ◌^◌, ◌<◌, ◌≤◌, Bool, true, false, ◌&&◌, ◌||◌, T, eqb, ltb, leb, ℤ, pos, negsuc, ◌+ℤ◌, ◌-ℤ◌, nat_abs, sym, refl, ap, ◌∙◌, subst, ⊎_elim, pow-suc, le_of_mul-le-mul_right, arith, ltb→lt, ltb-true, eqb-true}
+use Rattle.std.proofs.Common.{◌≡◌, ℕ, zero, suc, ◌*◌, ◌%◌, ◌^◌, ◌<◌, ◌≤◌, Bool, true, false, ◌&&◌, ◌||◌, T, eqb, ltb, leb, ℤ, pos, negsuc, ◌+ℤ◌, ◌-ℤ◌, nat_abs, sym, refl, ap, ◌∙◌, subst, ⊎_elim, pow-suc, le_of_mul-le-mul_right, arith, ltb→lt, ltb-true, eqb-true}
 use mathlib.Core.Bool.{beq}
 use lib.IntN.{+ℤ-neg_ℤ_cancel}
 use lib.Ieee.{Float, nan, inf, fin, binary64, up, down, level, lt, le, eq, add, sub, fits, low, emax}

@@ -2,7 +2,8 @@
 // prints what they answer.
 #![tactic(auto)]
 
-use geometry::{AngularOrder, AngularReply, Coord3D};
+use geometry::{Coord3D, NotACoordinate};
+use std::cmp::Ordering;
 use std::io;
 
 // Number 1's rule of one coordinate.
@@ -23,22 +24,22 @@ fn at(x: f64, y: f64) -> Coord3D {
     Coord3D { x, y, z: 0.0 }
 }
 
-fn order(o: AngularOrder) -> &'static str {
+fn order(o: Ordering) -> &'static str {
     match o {
-        AngularOrder::Less => "less",
-        AngularOrder::Equal => "equal",
-        AngularOrder::Greater => "greater",
+        Ordering::Less => "less",
+        Ordering::Equal => "equal",
+        Ordering::Greater => "greater",
     }
 }
 
 // The order of two targets around the centre (1, 1).
 fn compare(rt: &impl Print, name: &str, a: Coord3D, b: Coord3D) -> io::Result<()> {
     match geometry::compare_angular(at(1.0, 1.0), a, b) {
-        AngularReply::Order(o) => {
+        Ok(o) => {
             let answer = order(o);
             println!(rt; "compare {name} {answer}")
         }
-        AngularReply::Refused => println!(rt; "compare {name} refused 1"),
+        Err(NotACoordinate) => println!(rt; "compare {name} refused 1"),
     }
 }
 

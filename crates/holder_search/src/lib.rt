@@ -16,7 +16,7 @@ use candidate_order::place_for;
 use candidates::{doubled_of, in_box};
 use holding::ring_holds;
 use passing::{next_end, rest_is_larger};
-use tables::{NodeId, wide};
+use tables::NodeId;
 
 // Whether candidate j comes before the best so far; there is none yet where best is count.
 fn comes_first(
@@ -43,7 +43,7 @@ fn comes_first(
     if larger {
         return false;
     }
-    ring_face[wide(rings[j])] < ring_face[wide(rings[best])]
+    ring_face[usize::from(rings[j])] < ring_face[usize::from(rings[best])]
 }
 
 // Whether candidate j holds the open ring with these nodes. A ring's stamp is its number and one more.
@@ -69,9 +69,9 @@ fn candidate_holds(
     ensures stamps { (rs : List Ring) (bound slope : ℕ) → Field rs (map_of dir_edges_src.now xs.now ys.now half_edges.now nodes.now ring_first.now ring_length.now ring_face.now) bound slope rings.now numbers.now count → Stamps rs dir_edges_src.now bound stamps.old → Stamps rs dir_edges_src.now bound stamps.new }
 {
     let ring = rings[j];
-    let i = wide(ring);
-    let first = wide(ring_first[i]);
-    let end = first + wide(ring_length[i]);
+    let i = usize::from(ring);
+    let first = usize::from(ring_first[i]);
+    let end = first + usize::from(ring_length[i]);
     ring_holds(&nodes[first..end], inner, corner, xs, ys, ring + 1, stamps)
 }
 
@@ -103,7 +103,7 @@ fn improve(
     ensures best { (rs : List Ring) (bound slope : ℕ) (o : Ring) → Field rs (map_of dir_edges_src.now xs.now ys.now half_edges.now nodes.now ring_first.now ring_length.now ring_face.now) bound slope rings.now numbers.now count → Opening o (map_of dir_edges_src.now xs.now ys.now half_edges.now nodes.now ring_first.now ring_length.now ring_face.now) bound slope inner.now corner.0 x y → Best rs (map_of dir_edges_src.now xs.now ys.now half_edges.now nodes.now ring_first.now ring_length.now ring_face.now) o rings.now order.now count (place + 1) best → Best rs (map_of dir_edges_src.now xs.now ys.now half_edges.now nodes.now ring_first.now ring_length.now ring_face.now) o rings.now order.now count place result }
     ensures stamps { (rs : List Ring) (bound slope : ℕ) → Field rs (map_of dir_edges_src.now xs.now ys.now half_edges.now nodes.now ring_first.now ring_length.now ring_face.now) bound slope rings.now numbers.now count → Stamps rs dir_edges_src.now bound stamps.old → Stamps rs dir_edges_src.now bound stamps.new }
 {
-    let j = wide(order[place]);
+    let j = usize::from(order[place]);
     if comes_first(j, best, count, rings, numbers, ring_face) {
         if in_box(numbers, j, x, y) {
             if candidate_holds(

@@ -4,7 +4,7 @@ ghost use Rattle.holders.specs.Finding.{RingsGiven, HolesFound};
 use crate::find_holes;
 use extracting::Extracted;
 use hole_listing::HoleList;
-use tables::{NODES_Y, NODES_Z, PlanarGraph, TARGETS, wide};
+use tables::{NODES_Y, NODES_Z, PlanarGraph, TARGETS};
 
 // One record for each open ring. Both halves of each active edge are in rings, so the lists hold twice
 // as many half-edges as the census has edges.
@@ -24,7 +24,7 @@ pub fn holes_of_rings(
     ensures { HolesFound graph floats.now numbers.now half_edges.now ring_first.now ring_length.now ring_face.now ring_side.now ring_area.now done result }
 {
     let census = done.census;
-    let total = 2 * wide(census.edges);
+    let total = 2 * usize::from(census.edges);
     find_holes(
         graph.node_count,
         &floats[0..NODES_Y],

@@ -22,7 +22,7 @@ pub use finding::holes_of_rings;
 use hole_listing::{HoleList, list_holes};
 use inside::write_whole;
 use passing::write_passing;
-use tables::{MAX_HALF_EDGES, MAX_NODES, MAX_SHAPED, wide};
+use tables::{MAX_HALF_EDGES, MAX_NODES, MAX_SHAPED};
 use views::{PLAIN, choose_slope, write_along};
 
 // The node where each of the half-edges starts.
@@ -30,10 +30,8 @@ fn write_nodes(half_edges: &[u16], dir_edges_src: &[u16], nodes: &mut [u16])
     requires { (length half_edges.now ≤ length nodes.old) × ((k : ℕ) → k < length half_edges.now → get_or half_edges.now k 0 < length dir_edges_src.now) }
     ensures { nodes.new ≡ over (ring_nodes (origins dir_edges_src.now) half_edges.now) nodes.old }
 {
-    let mut k = 0;
-    while k < half_edges.len() {
-        nodes[k] = dir_edges_src[wide(half_edges[k])];
-        k += 1;
+    for k in 0..half_edges.len() {
+        nodes[k] = dir_edges_src[usize::from(half_edges[k])];
     }
 }
 
@@ -120,7 +118,7 @@ fn holes_of_map(
     let mut numbers = [0i64; CANDIDATE_NUMBERS];
     let count = list_boxed(
         slope,
-        wide(node_count),
+        usize::from(node_count),
         ring_count,
         nodes,
         xs,
@@ -180,8 +178,8 @@ fn find_holes(
 {
     let mut xs = [0i64; MAX_NODES];
     let mut ys = [0i64; MAX_NODES];
-    write_whole(nodes_x, wide(node_count), &mut xs);
-    write_whole(nodes_y, wide(node_count), &mut ys);
+    write_whole(nodes_x, usize::from(node_count), &mut xs);
+    write_whole(nodes_y, usize::from(node_count), &mut ys);
     let mut nodes = [0u16; MAX_HALF_EDGES];
     write_nodes(half_edges, dir_edges_src, &mut nodes);
     let slope = choose_slope(half_edges, dir_edges_src, nodes_x, nodes_y);

@@ -15,7 +15,8 @@ use Rattle.lists.proofs.Members.{in_pick, pick_in}
 use Rattle.lists.proofs.Passing.{pick_agree}
 use Rattle.geometry.specs.Angle.{Point}
 use Rattle.rules.specs.Euler.{some_of_lem}
-use Rattle.rules.specs.Holes.{left_of, outside, foremost_of}
+use Rattle.std.specs.declared.option.Option.TheVariants.{None, Some}
+use Rattle.rules.specs.Holes.{left_of, foremost_of}
 use Rattle.rules.proofs.Orders.{then_false, decides_int}
 use Rattle.rules.proofs.HoleLaws.{foremost_of_in, foremost_of-first}
 use Rattle.corners.specs.Nodes.{Stamped, unstamped, Leftmost}
@@ -55,19 +56,18 @@ module _ (at : ℕ → Point) where
       true_is_false (sym k.1 ∙ ap not (lt-ltb 0 (count_of w passed) (all w k.0)))) in
       ap (λ s. s && inside_by at passed (at (foremost_of (left_of at) 0 (free passed inner)))) none
 
-  module _ (l : List ℕ) (n : ℕ) (left : Leftmost at l n) where
-    -- where there is no leftmost, there is no test point
-    pub no_point_lem : n ≡ outside → some_of_lem l ≡ false
-    no_point_lem e = none_in l (left.empty e)
+  -- where there is no leftmost, there is no test point
+  pub no_point_lem : (l : List ℕ) → Leftmost at l None → some_of_lem l ≡ false
+  no_point_lem l empty = none_in l empty
 
+  module _ (l : List ℕ) (n : ℕ) (left : Leftmost at l (Some n)) where
     -- where there is one, it lies where the foremost does
-    pub some-point : (n ≡ outside → ⊥) → some_of_lem l ≡ true
-    some-point d = some_in l n (left.one d)
+    pub some-point : some_of_lem l ≡ true
+    some-point = some_in l n left.0
 
-    pub same_point : (n ≡ outside → ⊥) → at n ≡ at (foremost_of (left_of at) 0 l)
-    same_point d =
-        let m = left.one d in
-        level n (foremost_of (left_of at) 0 l) (foremost_of-first (left_of at) (left-order at) 0 l n m) (left.first (foremost_of (left_of at) 0 l) (foremost_of_in (left_of at) (left-order at) 0 l n m))
+    pub same_point : at n ≡ at (foremost_of (left_of at) 0 l)
+    same_point =
+        level n (foremost_of (left_of at) 0 l) (foremost_of-first (left_of at) (left-order at) 0 l n left.0) (left.1 (foremost_of (left_of at) 0 l) (foremost_of_in (left_of at) (left-order at) 0 l n left.0))
 
 -- ---- the corner, where the ring does not pass it
 

@@ -5,9 +5,9 @@ ghost use Rattle.std.specs.Prelude.{◌≡◌, ℕ};
 ghost use Rattle.inside.specs.Spots.{spot_in};
 ghost use Rattle.holding.specs.Holding.{holds_by_lem, Testable, Corner, Restamped};
 
-use corners::{NO_NODE, stamp_nodes, test_point};
+use corners::{stamp_nodes, test_point};
 use inside::{Stands, ring_stands};
-use tables::{NodeId, wide};
+use tables::NodeId;
 
 // The nodes of the ring, and those of the open one. The ring's nodes get its stamp, so that those of
 // the open one which the ring passes are told at a glance.
@@ -24,15 +24,16 @@ fn holds_free(
     ensures stamps { Restamped outer.now stamp stamps.old stamps.new }
 {
     stamp_nodes(outer, stamp, stamps);
-    let point = test_point(inner, xs, ys, stamp, stamps);
-    if point == NO_NODE {
-        return false;
-    }
-    let n = wide(point);
-    match ring_stands(outer, xs, ys, xs[n], ys[n]) {
-        Stands::Inside => true,
-        Stands::Outside => false,
-        Stands::OnRing => false,
+    match test_point(inner, xs, ys, stamp, stamps) {
+        None => false,
+        Some(point) => {
+            let n = usize::from(point);
+            match ring_stands(outer, xs, ys, xs[n], ys[n]) {
+                Stands::Inside => true,
+                Stands::Outside => false,
+                Stands::OnRing => false,
+            }
+        }
     }
 }
 
@@ -52,7 +53,7 @@ pub fn ring_holds(
     ensures held { result ≡ holds_by_lem (spot_in xs.now ys.now) outer.now inner.now }
     ensures stamps { Restamped outer.now stamp stamps.old stamps.new }
 {
-    let n = wide(corner.0);
+    let n = usize::from(corner.0);
     match ring_stands(outer, xs, ys, xs[n], ys[n]) {
         Stands::Inside => true,
         Stands::Outside => false,

@@ -10,7 +10,6 @@ ghost use Rattle.extracting.specs.Extraction.{lists_of};
 ghost use Rattle.hole_checks.specs.Checks.{HolesChecked};
 
 use crate::room::holes_fit;
-use calls::Checked;
 use tables::{PlanarGraph, Refusal};
 
 // The first test that fails, or none, for a hole list of `room` records.
@@ -28,12 +27,12 @@ pub fn check_holes(
     ring_face: &[u16],
     ring_side: &[u8],
     ring_area: &[f64],
-) -> Checked
+) -> Result<(), Refusal>
     ensures { HolesChecked room
         (state_in limits graph floats.now numbers.now stars.now marks.now ids.now)
         (lists_of half_edges.now ring_first.now ring_length.now ring_face.now ring_side.now ring_area.now) result }
 {
-    let checked = ring_checks::check_rings(
+    ring_checks::check_rings(
         graph,
         floats,
         numbers,
@@ -46,12 +45,9 @@ pub fn check_holes(
         ring_face,
         ring_side,
         ring_area,
-    );
-    if let Checked::Refused(why) = checked {
-        return Checked::Refused(why);
-    }
+    )?;
     if holes_fit(room, graph, floats, numbers, stars, marks) {
-        return Checked::Passed;
+        return Ok(());
     }
-    Checked::Refused(Refusal::TooFewHoles)
+    Err(Refusal::TooFewHoles)
 }

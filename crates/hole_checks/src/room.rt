@@ -41,10 +41,10 @@ pub fn holes_fit(
     requires slice_sound { SliceSound limits graph floats.now numbers.now stars.now marks.now }
     ensures { (ids : List ℕ) → let s = state_in limits graph floats.now numbers.now stars.now marks.now ids in sound limits s ≡ true → result ≡ leb (length (holes_in s)) room }
 {
-    if tables::wide(graph.edge_count) <= room {
+    if usize::from(graph.edge_count) <= room {
         return true;
     }
     let mut ring_side = [0u8; MAX_EDGES];
     let count = sides_of_regions(graph, floats, numbers, stars, marks, &mut ring_side);
-    open_rings(&ring_side, tables::wide(count)) <= room
+    open_rings(&ring_side, usize::from(count)) <= room
 }

@@ -9,6 +9,7 @@ use lib.Ieee.{Float}
 use lib.ListN.{length, length-map, take}
 use lib.Seq.{length-take-le}
 use borrow.Author.Tests.{leb-true}
+use Rattle.std.specs.Prelude.{Ok}
 use Rattle.lists.specs.Lists.{flatten, over}
 use Rattle.geometry.specs.Reply.{success}
 use Rattle.rules.specs.Limits.{Limits, limits}
@@ -23,15 +24,16 @@ use Rattle.tables.specs.declared.Refusal.{Refusal}
 use Rattle.tables.specs.declared.PlanarGraph.{PlanarGraph}
 use Rattle.tables.specs.Regions.{state_in, xs_in, ys_in, zs_in, segments_in, sources_in, targets_in, star_table_in, degrees_in, node_marks_in, half_marks_in, line_ids_in, tracings_in}
 use Rattle.cycles.specs.Census.{census_of}
+use Rattle.calls.specs.Checks.{passed}
 use Rattle.calls.specs.Replies.{left_with}
 use Rattle.calls.proofs.Shells.{turned_down_lem}
 use Rattle.extracting.specs.declared.Extracted.{Extracted}
 use Rattle.extracting.specs.Extraction.{Extraction}
 use Rattle.extracting.proofs.Numbering.{flat-few}
 use Rattle.extracting.proofs.Outcome.{total-is, extraction-ringed}
-use Rattle.calls.specs.declared.checks.Checked.TheVariants.{Passed}
 use Rattle.holes.specs.Lent.{hole_of, lent_holes}
-use Rattle.hole_entry.specs.declared.Ringed.{Ringed}
+use Rattle.tables.specs.declared.Answer.{Answer}
+use Rattle.hole_entry.specs.declared.RingsAndHoles.{RingsAndHoles}
 use Rattle.hole_entry.specs.declared.Made.{Made}
 use Rattle.hole_entry.specs.Replies.{rings_reply, answer_of}
 use Rattle.hole_checks.specs.Clause.{lent}
@@ -53,7 +55,7 @@ module _ (g : PlanarGraph) (floats : List Float) (numbers stars : List ℕ) (mar
       → Makes room (held g) rings r (held r.ringed.graph) rings
   refused_made why r t stopped = record {
     done = λ old e.
-        ap (λ (q : Ringed). left_with (rings_reply q.reply) (held q.graph) (lent rings (written_over r old))) t.answer
+        ap (λ (q : Answer RingsAndHoles). left_with (rings_reply q.reply) (held q.graph) (lent rings (written_over r old))) t.answer
         ∙ ap (λ n. turned_down_lem why (held g) (lent rings (over (lent_holes (take n r.list)) old))) t.none ∙ stopped old e;
     roomed = omega (arith, t.none);
     few = omega (arith, t.none);
@@ -65,7 +67,7 @@ module _ (g : PlanarGraph) (floats : List Float) (numbers stars : List ℕ) (mar
 
   -- the rings that were extracted, with these holes
   extracted-is : (old : List Hole) (written : RingLists) (x : Extracted) (holes : List Hole) (n : ℕ) → sound limits (held g) ≡ true → Extraction (held g) rings written x → holes ≡ holes_in (held g) → n ≡ length (holes_in (held g))
-      → left_with (rings_reply (answer_of x n)) (held x.graph) (lent written (over holes old)) ≡ extracted (held g) (lent rings old)
+      → left_with (rings_reply (Ok (answer_of x n))) (held x.graph) (lent written (over holes old)) ≡ extracted (held g) (lent rings old)
   unfolding extracted
   extracted-is old written x holes n sense e q k =
       let count : 2 * x.census.edges ≡ length halves =
@@ -81,14 +83,14 @@ module _ (g : PlanarGraph) (floats : List Float) (numbers stars : List ℕ) (mar
       (targets_in limits numbers) (half_marks_in limits marks) (star_table_in limits stars) (tracings_in limits numbers ids) rings written x e)
 
   -- a call that passes all tests
-  pub done_made : HolesChecked room (held g) rings Passed → (written : RingLists) (r : Made) → RingsMade (held g) rings written r → Makes room (held g) rings r (held r.ringed.graph) written
+  pub done_made : HolesChecked room (held g) rings passed → (written : RingLists) (r : Made) → RingsMade (held g) rings written r → Makes room (held g) rings r (held r.ringed.graph) written
   done_made passed written r m =
       let checked = passed.0 in
       let many : r.count ≡ length (holes_in (held g)) =
       sym (length-map (take r.count r.list) hole_of ∙ length-take-le r.count r.list (omega (arith, m.few, m.full))) ∙ ap length m.holes in
       record {
         done = λ old long.
-            ap (λ (q : Ringed). left_with (rings_reply q.reply) (held q.graph) (lent written (written_over r old))) m.answer
+            ap (λ (q : Answer RingsAndHoles). left_with (rings_reply q.reply) (held q.graph) (lent written (written_over r old))) m.answer
             ∙ extracted-is old written m.done (lent_holes (take r.count r.list)) r.count checked.1 m.extraction m.holes many
             ∙ extract-passes limits (held g) (lent rings old) (record { room = checked.0; sense = checked.1 }) checked.2 checked.3 (ap (leb (length (holes_in (held g)))) long ∙ passed.1);
         roomed = omega (arith, many, leb-true (length (holes_in (held g))) room passed.1);

@@ -1,5 +1,5 @@
 -- What the core of ring extraction makes, for the entry to write.
-use Rattle.std.specs.Prelude.{ℕ, ◌≤◌, ◌≡◌, List, length, take}
+use Rattle.std.specs.Prelude.{ℕ, ◌≤◌, ◌≡◌, List, length, take, Ok, Err}
 use Rattle.lists.specs.Lists.{over}
 use Rattle.rules.specs.Limits.{limits, shaped_rings}
 use Rattle.rules.specs.State.{State}
@@ -11,21 +11,20 @@ use Rattle.tables.specs.declared.Refusal.{Refusal}
 use Rattle.extracting.specs.declared.Extracted.{Extracted}
 use Rattle.extracting.specs.Extraction.{Extraction}
 use Rattle.holes.specs.Lent.{lent_holes}
-use Rattle.hole_entry.specs.declared.RingsReply.TheVariants.{Refused}
 use Rattle.hole_entry.specs.declared.Made.{Made}
 use Rattle.hole_entry.specs.Replies.{rings_reply, answer_of}
 use Rattle.hole_checks.specs.Clause.{lent, Extracts}
 
 -- a refusal, and no hole
 pub record TurnedDown (graph : PlanarGraph) (why : Refusal) (r : Made) : Type 0 where
-  pub answer : r.ringed ≡ record { graph = graph; reply = Refused why }
+  pub answer : r.ringed ≡ record { graph = graph; reply = Err why }
   pub none : r.count ≡ 0
 
 -- the rings of a state are written, and with the answer come its holes, in a full array
 pub record RingsMade (s : State) (rings written : RingLists) (r : Made) : Type 0 where
   pub done : Extracted
   pub extraction : Extraction s rings written done
-  pub answer : r.ringed ≡ record { graph = done.graph; reply = answer_of done r.count }
+  pub answer : r.ringed ≡ record { graph = done.graph; reply = Ok (answer_of done r.count) }
   pub holes : lent_holes (take r.count r.list) ≡ holes_in s
   pub few : r.count ≤ shaped_rings limits
   pub full : length r.list ≡ shaped_rings limits

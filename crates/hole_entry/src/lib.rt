@@ -11,26 +11,18 @@ ghost use Rattle.hole_entry.specs.Replies.{rings_reply};
 ghost use Rattle.hole_checks.specs.Clause.{lent_of, Extracts};
 ghost use Rattle.hole_entry.specs.Making.{TurnedDown, Makes};
 
-use calls::Checked;
-use cycles::Census;
 use hole_checks::check_holes;
 use holes::Hole;
 use making::extract_checked;
-use tables::{MAX_SHAPED, PlanarGraph, Refusal};
+use ring_entry::Rings;
+use tables::{Answer, MAX_SHAPED, PlanarGraph, Refusal};
 
-// What ring extraction answers: how many rings it listed, with V, E, cycles, C and the verdict, how
-// many comparisons naming them took, and how many half-edges and holes it wrote; or a refusal.
+// What ring extraction listed: the rings, and how many half-edges and holes it wrote.
 #[derive(Clone, Copy)]
-pub enum RingsReply {
-    Rings(u16, Census, u16, u16, u16),
-    Refused(Refusal),
-}
-
-// The counts and the stage after the call, and its answer.
-#[derive(Clone, Copy)]
-pub struct Ringed {
-    pub graph: PlanarGraph,
-    pub reply: RingsReply,
+pub struct RingsAndHoles {
+    pub rings: Rings,
+    pub half_edges: u16,
+    pub holes: u16,
 }
 
 // What the core hands to the entry: the holes to write, and the answer. The records come first, so that
@@ -39,7 +31,7 @@ pub struct Ringed {
 pub struct Made {
     pub list: [Hole; MAX_SHAPED],
     pub count: usize,
-    pub ringed: Ringed,
+    pub ringed: Answer<RingsAndHoles>,
 }
 
 // A refusal: no hole is to be written.
@@ -50,9 +42,9 @@ fn turned_down(graph: PlanarGraph, why: Refusal) -> Made
     Made {
         list,
         count: 0,
-        ringed: Ringed {
+        ringed: Answer {
             graph,
-            reply: RingsReply::Refused(why),
+            reply: Err(why),
         },
     }
 }
@@ -96,7 +88,7 @@ pub fn extract_core(
         ring_side,
         ring_area,
     );
-    if let Checked::Refused(why) = checked {
+    if let Err(why) = checked {
         return turned_down(graph, why);
     }
     extract_checked(
@@ -131,7 +123,7 @@ pub fn extract_rings(
     ring_face: &mut [u16],
     ring_side: &mut [u8],
     ring_area: &mut [f64],
-) -> Ringed
+) -> Answer<RingsAndHoles>
     ensures { Extracts
         (state_in limits graph floats.now numbers.now stars.now marks.now ids.now)
         (lent_of (lists_of half_edges.old ring_first.old ring_length.old ring_face.old ring_side.old ring_area.old) holes.old)

@@ -8,25 +8,27 @@ ghost use Rattle.ring_entry.specs.Given.{SliceSound};
 ghost use Rattle.hole_entry.specs.Replies.{answer_of};
 ghost use Rattle.hole_entry.specs.Making.{RingsMade};
 
-use crate::{Made, Ringed, RingsReply};
+use crate::{Made, RingsAndHoles};
 use extracting::Extracted;
 use holders::holes_of_rings;
-use ring_entry::extract_regions;
-use tables::PlanarGraph;
+use ring_entry::{Rings, extract_regions};
+use tables::{Answer, PlanarGraph};
 
 // The answer: each active edge has both halves in rings.
-fn answer(done: Extracted, holes: usize) -> RingsReply
+fn answer(done: Extracted, holes: usize) -> RingsAndHoles
     requires { (done.census.edges ≤ limits.edges) × (holes ≤ shaped_rings limits) }
     ensures { result ≡ answer_of done holes }
 {
     let census = done.census;
-    RingsReply::Rings(
-        done.count,
-        census,
-        done.comparisons,
-        2 * census.edges,
-        holes as u16,
-    )
+    RingsAndHoles {
+        rings: Rings {
+            count: done.count,
+            census,
+            comparisons: done.comparisons,
+        },
+        half_edges: 2 * census.edges,
+        holes: holes as u16,
+    }
 }
 
 // The rings are written into their lists, and their holes handed back.
@@ -82,9 +84,9 @@ pub fn extract_checked(
     Made {
         list,
         count,
-        ringed: Ringed {
+        ringed: Answer {
             graph: after,
-            reply,
+            reply: Ok(reply),
         },
     }
 }

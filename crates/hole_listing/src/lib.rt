@@ -18,7 +18,7 @@ use candidates::sides_at;
 use holder_search::best_holder;
 use holes::Hole;
 use ring_lists::{OPEN, doubled_area};
-use tables::{MAX_NODES, MAX_SHAPED, NodeId, wide};
+use tables::{MAX_NODES, MAX_SHAPED, NodeId};
 use views::along_of;
 
 // The holder of a ring that no ring holds: the one outside.
@@ -56,13 +56,13 @@ fn holder_of(
     ensures holder { (rs : List Ring) (bound : ℕ) → Field rs (map_of dir_edges_src.now xs.now ys.now half_edges.now nodes.now ring_first.now ring_length.now ring_face.now) bound slope rings.now numbers.now count → ring < length rs → result ≡ holder_of_lem (spot_in xs.now ys.now) (origins dir_edges_src.now) rs (ring_at rs ring) }
     ensures stamps { (rs : List Ring) (bound : ℕ) → Field rs (map_of dir_edges_src.now xs.now ys.now half_edges.now nodes.now ring_first.now ring_length.now ring_face.now) bound slope rings.now numbers.now count → Stamps rs dir_edges_src.now bound stamps.old → Stamps rs dir_edges_src.now bound stamps.new }
 {
-    let i = wide(ring);
+    let i = usize::from(ring);
     let sides = sides_at(ring, nodes, xs, ys, ring_first, ring_length);
-    let corner = wide(sides.left);
+    let corner = usize::from(sides.left);
     let y = ys[corner];
     let x = along_of(slope, xs[corner], y);
-    let first = wide(ring_first[i]);
-    let end = first + wide(ring_length[i]);
+    let first = usize::from(ring_first[i]);
+    let end = first + usize::from(ring_length[i]);
     let best = best_holder(
         &nodes[first..end],
         NodeId(sides.left),
@@ -125,9 +125,8 @@ pub fn list_holes(
     }; MAX_SHAPED];
     let mut stamps = [0u16; MAX_NODES];
     let mut k = 0;
-    let mut i: u16 = 0;
-    while i < ring_count {
-        let ring = wide(i);
+    for i in 0..ring_count {
+        let ring = usize::from(i);
         let open = ring_side[ring] == OPEN;
         if open {
             let holder = holder_of(
@@ -157,7 +156,6 @@ pub fn list_holes(
             };
             k += 1;
         }
-        i += 1;
     }
     HoleList { list, count: k }
 }

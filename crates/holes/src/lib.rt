@@ -34,7 +34,5 @@ pub fn fill_holes(holes: &mut [Hole], list: [Hole; MAX_SHAPED], count: usize)
     requires { (count ≤ length holes.old) × (count ≤ shaped_rings limits) }
     ensures { holes.new ≡ filled list count holes.old }
 {
-    for i in 0..count {
-        holes[i] = list[i];
-    }
+    holes[..count].copy_from_slice(&list[..count]);
 }

@@ -11,19 +11,19 @@ ghost use Rattle.calls.specs.Replies.{left};
 ghost use Rattle.adding.specs.Outcomes.{Ready, reply_of};
 ghost use Rattle.lookup.specs.Indexed.{Indexed};
 
-use adding::AddReply;
+use adding::LineEdge;
 use chaining::{chain_more, find_chained};
 use geometry::Line3D;
 use making::{IdPlace, add_found};
 use placing::{free_after, seek_line};
-use tables::{MAX_PAIRS, PlanarGraph};
+use tables::{MAX_PAIRS, PlanarGraph, Refusal};
 
 // The state after an addition, its answer, and the lowest free place for the next one, MAX_PAIRS where
 // there is none.
 #[derive(Clone, Copy)]
 pub struct Addition {
     pub graph: PlanarGraph,
-    pub reply: AddReply,
+    pub reply: Result<LineEdge, Refusal>,
     pub free: u16,
 }
 

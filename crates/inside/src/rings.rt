@@ -7,7 +7,7 @@ ghost use Rattle.inside.specs.Meeting.{meets_of};
 ghost use Rattle.inside.specs.Standing.{stands_from};
 
 use super::lines::{Meets, line_meets};
-use tables::{NodeId, wide};
+use tables::NodeId;
 
 // Strictly inside by the even-odd rule, outside, or on one of the ring's lines.
 #[derive(Clone, Copy)]
@@ -22,8 +22,8 @@ fn nodes_meet(from: NodeId, to: NodeId, xs: &[i64], ys: &[i64], px: i64, py: i64
     requires { (nodes : ℕ) × (from.0 < nodes) × (to.0 < nodes) × Spotted coordinate_bound nodes xs.now ys.now × Near coordinate_bound (spot px py) }
     ensures { result ≡ meets_of (spot_in xs.now ys.now from.0) (spot_in xs.now ys.now to.0) (spot px py) }
 {
-    let a = wide(from.0);
-    let b = wide(to.0);
+    let a = usize::from(from.0);
+    let b = usize::from(to.0);
     line_meets(xs[a], ys[a], xs[b], ys[b], px, py)
 }
 
@@ -36,23 +36,13 @@ pub fn ring_stands(nodes: &[u16], xs: &[i64], ys: &[i64], px: i64, py: i64) -> S
 {
     let mut from = nodes[nodes.len() - 1];
     let mut odd = false;
-    let mut k = 0;
-    while k < nodes.len() {
-        let to = nodes[k];
+    for &to in nodes {
         match nodes_meet(NodeId(from), NodeId(to), xs, ys, px, py) {
-            Meets::OnLine => {
-                return Stands::OnRing;
-            }
-            Meets::Right => {
-                odd = !odd;
-            }
+            Meets::OnLine => return Stands::OnRing,
+            Meets::Right => odd = !odd,
             Meets::Apart => {}
         }
         from = to;
-        k += 1;
     }
-    if odd {
-        return Stands::Inside;
-    }
-    Stands::Outside
+    if odd { Stands::Inside } else { Stands::Outside }
 }

@@ -17,9 +17,7 @@ pub fn write_whole(floats: &[f64], count: usize, out: &mut [i64])
     requires { (count ≤ length floats.now) × (count ≤ length out.old) × ((n : ℕ) → n < count → T (coordinate coordinate_bound (slice_index_or floats.now n nan))) }
     ensures { out.new ≡ over (take count (map value floats.now)) out.old }
 {
-    let mut n = 0;
-    while n < count {
+    for n in 0..count {
         out[n] = whole(floats[n]);
-        n += 1;
     }
 }

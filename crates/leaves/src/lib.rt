@@ -10,7 +10,7 @@ ghost use Rattle.leaves.specs.Given.{origin_in};
 ghost use Rattle.leaves.specs.Steps.{leaf, latest, tables_at, Reached, Takeable};
 
 use stars::is_active;
-use tables::{DirEdgeId, NodeId, twin_of, wide};
+use tables::{DirEdgeId, NodeId, twin_of};
 
 // How many nodes are stacked, and how many edges were found.
 #[derive(Clone, Copy)]
@@ -24,7 +24,7 @@ pub fn is_leaf(nodes_degree: &[u16], nodes_marked: &[bool], node: NodeId) -> boo
     requires { (node.0 < length nodes_degree.now) × (node.0 < length nodes_marked.now) }
     ensures { result ≡ leaf nodes_degree.now nodes_marked.now node.0 }
 {
-    let n = wide(node.0);
+    let n = usize::from(node.0);
     if nodes_degree[n] == 1 {
         return !nodes_marked[n];
     }
@@ -60,10 +60,8 @@ pub fn stack_leaves(
     ensures { (latest result stack.new ≡ reverse (below (leaf nodes_degree.now nodes_marked.now) nodes)) × (result ≤ nodes) }
 {
     let mut stacked = 0;
-    let mut n: u16 = 0;
-    while n < nodes {
+    for n in 0..nodes {
         stacked = push_leaf(nodes_degree, nodes_marked, NodeId(n), stack, stacked);
-        n += 1;
     }
     stacked
 }
@@ -74,13 +72,11 @@ pub fn first_active(grouped: &[u16], from: usize, to: usize, dir_edges_marked: &
     requires { (to ≤ length grouped.now) × ((h : ℕ) → In h (part from to grouped.now) → h < length dir_edges_marked.now) }
     ensures { result.0 ≡ first_active_lem dir_edges_marked.now 0 (part from to grouped.now) }
 {
-    let mut i = from;
-    while i < to {
+    for i in from..to {
         let half = DirEdgeId(grouped[i]);
         if is_active(dir_edges_marked, half) {
             return half;
         }
-        i += 1;
     }
     DirEdgeId(0)
 }
@@ -101,11 +97,11 @@ pub fn take_node(
     requires { Takeable node.0 half.0 dir_edges_src.now nodes_degree.old nodes_marked.old dir_edges_marked.old stack.old out.old at }
     ensures { (tables_at nodes_degree.new nodes_marked.new dir_edges_marked.new stack.new out.new result ≡ take_node_lem node.0 half.0 (origin_in dir_edges_src.now (twin half.0)) (tables_at nodes_degree.old nodes_marked.old dir_edges_marked.old stack.old out.old at)) × (Reached at.found out.old out.new stack.new result) }
 {
-    let n = wide(node.0);
-    let h = wide(half.0);
-    let t = wide(twin_of(half).0);
+    let n = usize::from(node.0);
+    let h = usize::from(half.0);
+    let t = usize::from(twin_of(half).0);
     let neighbour = NodeId(dir_edges_src[t]);
-    let other = wide(neighbour.0);
+    let other = usize::from(neighbour.0);
     let degree = nodes_degree[other] - 1;
     nodes_marked[n] = true;
     dir_edges_marked[h] = true;

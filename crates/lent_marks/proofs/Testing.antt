@@ -17,8 +17,7 @@ use Rattle.tables.specs.Regions.{least_floats, least_numbers, least_stars, least
 use Rattle.tables.proofs.SliceRoom.{room-is, room_of}
 use Rattle.tables.specs.declared.Refusal.{Refusal}
 use Rattle.tables.specs.declared.Refusal.TheVariants.{TableTooShort, Unsound}
-use Rattle.calls.specs.declared.checks.Checked.{Checked}
-use Rattle.calls.specs.declared.checks.Checked.TheVariants.{Passed, Refused}
+use Rattle.calls.specs.Checks.{Checked, passed, due}
 use Rattle.calls.proofs.Shells.{turned_down_lem, never}
 use Rattle.lent_marks.specs.Marks.{is_set, marks_in, lent_state}
 
@@ -59,20 +58,20 @@ module _ (l : Limits) (g : PlanarGraph) (floats : List Float) (numbers stars byt
 
 -- what is due, by what the two tests came to
 abbrev pub checked_by : Bool → Bool → Checked
-checked_by roomy plain = cond roomy (cond plain Passed (Refused Unsound)) (Refused TableTooShort)
+checked_by roomy plain = cond roomy (cond plain passed (due Unsound)) (due TableTooShort)
 
 -- one that was refused has one reason
-same : {why why' : Refusal} → Refused why ≡ Refused why' → why ≡ why'
+same : {why why' : Refusal} → due why ≡ due why' → why ≡ why'
 same q = cc
 
 -- the tests passed
-pub checked_passed : (a b : Bool) → Passed ≡ checked_by a b → (a ≡ true) × (b ≡ true)
+pub checked_passed : (a b : Bool) → passed ≡ checked_by a b → (a ≡ true) × (b ≡ true)
 checked_passed false b e = absurd (never e)
 checked_passed true false e = absurd (never e)
 checked_passed true true e = (refl, refl)
 
 -- the first that failed gives its refusal and leaves everything
-pub checked_refused : {A L : Type 0} (s : State) (lists : L) (o : Outcome A L) (a b : Bool) (why : Refusal) → Refused why ≡ checked_by a b
+pub checked_refused : {A L : Type 0} (s : State) (lists : L) (o : Outcome A L) (a b : Bool) (why : Refusal) → due why ≡ checked_by a b
     → turned_down_lem why s lists ≡ demand a 6 s lists (demand b 7 s lists o)
 checked_refused s lists o false b why e = ap (λ z. turned_down_lem z s lists) (same e)
 checked_refused s lists o true false why e = ap (λ z. turned_down_lem z s lists) (same e)

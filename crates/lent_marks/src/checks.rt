@@ -9,21 +9,19 @@ ghost use Rattle.tables.specs.declared.PlanarGraph.{PlanarGraph};
 ghost use Rattle.lent_marks.specs.Marks.{lent_state, mark_at_lem, plain};
 ghost use Rattle.lent_marks.specs.Checks.{marks_check};
 
-use calls::Checked;
-use tables::{
-    FLOATS, HALF_MARKS, IDS, MARKS, MAX_EDGES, MAX_NODES, NUMBERS, PlanarGraph, Refusal, STARS,
-    wide,
-};
+use tables::{HALF_MARKS, MAX_EDGES, MAX_NODES, PlanarGraph, Refusal};
 
 // Number 6. Counts and stage do not matter to it, so it holds whatever graph the slices are lent with.
 pub fn has_room(floats: &[f64], numbers: &[u16], stars: &[u16], marks: &[u8], ids: &[u32]) -> bool
     ensures { (graph : PlanarGraph) → result ≡ roomy limits (lent_state limits graph floats.now numbers.now stars.now marks.now ids.now) }
 {
-    (FLOATS <= floats.len())
-        & (NUMBERS <= numbers.len())
-        & (STARS <= stars.len())
-        & (MARKS <= marks.len())
-        & (IDS <= ids.len())
+    calls::are_long(
+        floats.len(),
+        numbers.len(),
+        stars.len(),
+        marks.len(),
+        ids.len(),
+    )
 }
 
 // The first bytes are 0 or 1. It goes on past a bad one: a loop with one way out takes many bytes at a
@@ -33,10 +31,8 @@ fn are_marks(count: usize, bytes: &[u8]) -> bool
     ensures { result ≡ all (mark_at_lem bytes.now) (upto count) }
 {
     let mut good = true;
-    let mut i = 0;
-    while i < count {
+    for i in 0..count {
         good = good & (bytes[i] < 2);
-        i += 1;
     }
     good
 }
@@ -46,8 +42,8 @@ fn are_plain(graph: PlanarGraph, marks: &[u8]) -> bool
     requires { least_marks limits ≤ length marks.now }
     ensures { result ≡ plain limits graph.node_count graph.edge_count marks.now }
 {
-    let nodes = wide(graph.node_count);
-    let edges = wide(graph.edge_count);
+    let nodes = usize::from(graph.node_count);
+    let edges = usize::from(graph.edge_count);
     if MAX_NODES < nodes {
         return false;
     }
@@ -65,14 +61,14 @@ pub fn check_marks(
     stars: &[u16],
     marks: &[u8],
     ids: &[u32],
-) -> Checked
+) -> Result<(), Refusal>
     ensures { result ≡ marks_check limits (lent_state limits graph floats.now numbers.now stars.now marks.now ids.now) marks.now }
 {
     if has_room(floats, numbers, stars, marks, ids) {
         if are_plain(graph, marks) {
-            return Checked::Passed;
+            return Ok(());
         }
-        return Checked::Refused(Refusal::Unsound);
+        return Err(Refusal::Unsound);
     }
-    Checked::Refused(Refusal::TableTooShort)
+    Err(Refusal::TableTooShort)
 }

@@ -12,10 +12,8 @@ pub fn read_marks(bytes: &[u8]) -> [bool; MARKS]
     ensures { result ≡ marks_in limits bytes.now }
 {
     let mut row = [false; MARKS];
-    let mut i = 0;
-    while i < MARKS {
+    for i in 0..MARKS {
         row[i] = bytes[i] != 0;
-        i += 1;
     }
     row
 }
@@ -40,9 +38,7 @@ pub fn write_marks(row: &[bool], bytes: &mut [u8])
     requires { length row.now ≤ length bytes.old }
     ensures { bytes.new ≡ blended row.now bytes.old }
 {
-    let mut i = 0;
-    while i < row.len() {
+    for i in 0..row.len() {
         bytes[i] = with_mark(row[i], bytes[i]);
-        i += 1;
     }
 }

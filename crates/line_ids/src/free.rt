@@ -4,7 +4,7 @@ ghost use Rattle.std.specs.Prelude.{◌≡◌, ◌≤◌};
 ghost use Rattle.rules.specs.Limits.{limits};
 ghost use Rattle.line_ids.specs.Free.{used_marks, list_places_lem, marked, Ends, Ending, free_from};
 
-use tables::{LIST_END, MAX_PAIRS, wide};
+use tables::{LIST_END, MAX_PAIRS};
 
 // The places of edge k's list are marked.
 fn mark_list(k: usize, list_places: &[u16], links: &[u16], used: &mut [bool; MAX_PAIRS])
@@ -13,7 +13,7 @@ fn mark_list(k: usize, list_places: &[u16], links: &[u16], used: &mut [bool; MAX
 {
     let mut at = list_places[k];
     while at != LIST_END {
-        let p = wide(at);
+        let p = usize::from(at);
         used[p] = true;
         at = links[p];
     }
@@ -25,25 +25,22 @@ pub fn mark_used(edges: usize, list_places: &[u16], links: &[u16]) -> [bool; MAX
     ensures { result ≡ used_marks limits.pairs list_places.now links.now edges }
 {
     let mut used = [false; MAX_PAIRS];
-    let mut k = 0;
-    while k < edges {
+    for k in 0..edges {
         mark_list(k, list_places, links, &mut used);
-        k += 1;
     }
     used
 }
 
-// The first place from a given one on that is not marked; MAX_PAIRS where all are.
+// The first place from a given one on that is not marked; MAX_PAIRS where all are. A loop and no find,
+// whose closure would have to answer at places past the marks too.
 pub fn next_free(from: u16, used: &[bool; MAX_PAIRS]) -> u16
     requires { from ≤ limits.pairs }
     ensures { result ≡ free_from used.now from limits.pairs }
 {
-    let mut p = wide(from);
-    while p < MAX_PAIRS {
+    for p in usize::from(from)..MAX_PAIRS {
         if !used[p] {
             return p as u16;
         }
-        p += 1;
     }
-    p as u16
+    MAX_PAIRS as u16
 }

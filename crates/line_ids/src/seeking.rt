@@ -5,9 +5,10 @@ ghost use Rattle.rules.specs.Limits.{limits};
 ghost use Rattle.rules.specs.LineIds.{list_end, places_of, ids_of, last_lower};
 ghost use Rattle.line_ids.specs.Seeking.{Seekable};
 
-use tables::{EdgeId, LIST_END, wide};
+use tables::{EdgeId, LIST_END};
 
-// Whether the id is there, and the last place whose id is lower; LIST_END where none is.
+// Whether the id is there, and the last place whose id is lower; LIST_END where none is. A struct and
+// no Option: where the id is there, seek_id's clause `behind` still gives the last lower place.
 #[derive(Clone, Copy)]
 pub struct Sought {
     pub known: bool,
@@ -26,11 +27,11 @@ pub fn seek_id(
     ensures known { result.known ≡ member id (ids_of limits.pairs (record { place = list_places.now; id = pair_ids.now; next = links.now }) edge.0) }
     ensures behind { result.behind ≡ last_lower pair_ids.now id list_end (places_of limits.pairs (record { place = list_places.now; id = pair_ids.now; next = links.now }) edge.0) }
 {
-    let k = wide(edge.0);
+    let k = usize::from(edge.0);
     let mut behind = LIST_END;
     let mut at = list_places[k];
     while at != LIST_END {
-        let p = wide(at);
+        let p = usize::from(at);
         let here = pair_ids[p];
         if id <= here {
             return Sought {

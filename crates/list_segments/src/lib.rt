@@ -11,16 +11,9 @@ use std::io::{Read, Write};
 use tables::{FLOATS, IDS, MARKS, NUMBERS, STARS};
 use written_output::{complain, write_front};
 
-// What was written for the input: a text of so many bytes, or nothing, since a read failed.
-#[derive(Clone, Copy)]
-enum Printed {
-    Text(usize),
-    Failed,
-}
-
-// Reads the input and writes its text to the front of `out`. A read that failed is no end of the
-// input: then nothing is written.
-fn put_input<R: Read>(input: &mut R, out: &mut [u8]) -> Printed
+// Reads the input and writes its text to the front of `out`; answers how many bytes it has. A read that
+// failed is no end of the input: then nothing is written, and there is no answer.
+fn put_input<R: Read>(input: &mut R, out: &mut [u8]) -> Option<usize>
     requires { listing_room limits ≤ length out.old }
     ensures text { Prints result out.old out.new }
     ensures size { Ends result out.new }
@@ -43,7 +36,7 @@ fn put_input<R: Read>(input: &mut R, out: &mut [u8]) -> Printed
     let reply = read.reply;
     let source = read.source;
     if buffered_input::is_failed(source) {
-        return Printed::Failed;
+        return None;
     }
     let size = taken_text::put_taken(
         after,
@@ -56,14 +49,14 @@ fn put_input<R: Read>(input: &mut R, out: &mut [u8]) -> Printed
         &ids,
         out,
     );
-    Printed::Text(size)
+    Some(size)
 }
 
 // Lists the segments that can be read from `input` on `output`; what failed is said on `errors`.
 pub fn list<R: Read, W: Write, E: Write>(input: &mut R, output: &mut W, errors: &mut E) {
     let mut text = [0u8; LISTING_ROOM];
     match put_input(input, &mut text) {
-        Printed::Text(size) => write_front(output, errors, &text, size),
-        Printed::Failed => complain(errors, b"read error\n"),
+        Some(size) => write_front(output, errors, &text, size),
+        None => complain(errors, b"read error\n"),
     }
 }

@@ -7,7 +7,7 @@ ghost use Rattle.rules.specs.Limits.{limits};
 ghost use Rattle.rules.specs.LineIds.{sound_lists};
 ghost use Rattle.list_tests.specs.Walks.{walk_from, walk_list};
 
-use tables::{LIST_END, MAX_PAIRS, wide};
+use tables::{LIST_END, MAX_PAIRS};
 
 // The id at place q is higher than the one at p. A place outside the table holds none.
 fn rises(pair_ids: &[u32], p: usize, q: usize) -> bool
@@ -26,9 +26,8 @@ fn goes_on(start: u16, pair_ids: &[u32], links: &[u16], seen: &mut [bool; MAX_PA
     requires { (limits.pairs ≤ length pair_ids.now) × (limits.pairs ≤ length links.now) }
     ensures { record { good = result; seen = seen.new } ≡ walk_from limits.pairs pair_ids.now links.now limits.pairs start seen.old }
 {
-    let mut at = wide(start);
-    let mut steps = 0;
-    while steps < MAX_PAIRS {
+    let mut at = usize::from(start);
+    for steps in 0..MAX_PAIRS {
         if MAX_PAIRS <= at {
             return false;
         }
@@ -40,12 +39,11 @@ fn goes_on(start: u16, pair_ids: &[u32], links: &[u16], seen: &mut [bool; MAX_PA
         if next == LIST_END {
             return true;
         }
-        let q = wide(next);
+        let q = usize::from(next);
         if !rises(pair_ids, at, q) {
             return false;
         }
         at = q;
-        steps += 1;
     }
     false
 }
@@ -63,7 +61,7 @@ fn list_sound(
     ensures { record { good = result; seen = seen.new } ≡ walk_list limits.pairs (record { place = list_places.now; id = pair_ids.now; next = links.now }) line_ids.now k seen.old }
 {
     let start = list_places[k];
-    let p = wide(start);
+    let p = usize::from(start);
     if MAX_PAIRS <= p {
         return false;
     }
@@ -86,10 +84,8 @@ pub fn lists_sound(
 {
     let mut seen = [false; MAX_PAIRS];
     let mut good = true;
-    let mut k = 0;
-    while k < edges {
+    for k in 0..edges {
         good = good & list_sound(k, list_places, line_ids, pair_ids, links, &mut seen);
-        k += 1;
     }
     good
 }

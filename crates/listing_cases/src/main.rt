@@ -3,8 +3,8 @@
 #![tactic(auto)]
 
 use std::fs::File;
-use std::io::Write;
-use std::{env, fs, io};
+use std::io::{Read, Write};
+use std::{env, io};
 
 // A line with the name, and then the listing of the file.
 fn list_file(rt: &HostRuntime, name: &str) -> io::Result<()> {
@@ -14,78 +14,100 @@ fn list_file(rt: &HostRuntime, name: &str) -> io::Result<()> {
     Ok(())
 }
 
-fn write_zeros(file: &mut File, count: usize) -> io::Result<()> {
-    let chunk = [0u8; 4096];
-    let mut left = count;
-    while 4096 < left {
-        file.write_all(&chunk)?;
-        left -= 4096;
-    }
-    file.write_all(&chunk[..left])
+// A file to be made: a record's length and kind, so many zeros, and what another file holds.
+struct Long {
+    name: &'static str,
+    length: u32,
+    kind: u16,
+    zeros: u64,
+    behind: &'static str,
 }
 
-// The bytes of a file.
-fn copy_file(rt: &HostRuntime, path: &str, to: &mut File) -> io::Result<()> {
-    let bytes = fs::read(rt, path)?;
-    to.write_all(&bytes)
-}
+// Records that are passed over: the longest ring, and lengths up to the buffer's bytes in all and one more.
+const PASSED: [Long; 4] = [
+    Long {
+        name: "long_ring",
+        length: 131_084,
+        kind: 2,
+        zeros: 131_082,
+        behind: "p4",
+    },
+    Long {
+        name: "long_skipped",
+        length: 200_000,
+        kind: 7,
+        zeros: 199_998,
+        behind: "p4",
+    },
+    Long {
+        name: "long_fits",
+        length: 65_532,
+        kind: 3,
+        zeros: 65_530,
+        behind: "p4",
+    },
+    Long {
+        name: "long_over",
+        length: 65_533,
+        kind: 3,
+        zeros: 65_531,
+        behind: "p4",
+    },
+];
 
-// A file is made and listed: a record's length and kind, so many zeros, and what another file holds.
-fn list_long(
-    rt: &HostRuntime,
-    name: &str,
-    head: &[u8],
-    zeros: usize,
-    behind: &str,
-) -> io::Result<()> {
-    let mut made = File::create(rt, name)?;
-    made.write_all(head)?;
-    write_zeros(&mut made, zeros)?;
-    copy_file(rt, behind, &mut made)?;
-    list_file(rt, name)
-}
+// Files that are refused. What stands behind counts towards the record where that is not there to its end.
+const REFUSED: [Long; 6] = [
+    Long {
+        name: "long_counted",
+        length: 131_084,
+        kind: 2,
+        zeros: 131_082,
+        behind: "kind_16_later",
+    },
+    Long {
+        name: "long_segment",
+        length: 100_000,
+        kind: 1,
+        zeros: 99_998,
+        behind: "p4",
+    },
+    Long {
+        name: "long_kind",
+        length: 100_000,
+        kind: 16,
+        zeros: 99_998,
+        behind: "p4",
+    },
+    Long {
+        name: "long_whole",
+        length: 100_000,
+        kind: 2,
+        zeros: 99_766,
+        behind: "p4",
+    },
+    Long {
+        name: "long_cut_by_one",
+        length: 100_000,
+        kind: 2,
+        zeros: 99_765,
+        behind: "p4",
+    },
+    Long {
+        name: "long_cut",
+        length: u32::MAX,
+        kind: 15,
+        zeros: 70_000,
+        behind: "p4",
+    },
+];
 
-// Lengths of 131,084 (the longest ring), 200,000, 65,532 (the buffer's bytes in all) and 65,533.
-fn list_passed(rt: &HostRuntime) -> io::Result<()> {
-    list_long(rt, "long_ring", b"\x0c\x00\x02\x00\x02\x00", 131_082, "p4")?;
-    list_long(
-        rt,
-        "long_skipped",
-        b"\x40\x0d\x03\x00\x07\x00",
-        199_998,
-        "p4",
-    )?;
-    list_long(rt, "long_fits", b"\xfc\xff\x00\x00\x03\x00", 65_530, "p4")?;
-    list_long(rt, "long_over", b"\xfd\xff\x00\x00\x03\x00", 65_531, "p4")
-}
-
-// Of 131,084, 100,000 three times, and of 4,294,967,295. What stands behind counts towards the record
-// where that is not there to its end.
-fn list_refused(rt: &HostRuntime) -> io::Result<()> {
-    list_long(
-        rt,
-        "long_counted",
-        b"\x0c\x00\x02\x00\x02\x00",
-        131_082,
-        "kind_16_later",
-    )?;
-    list_long(
-        rt,
-        "long_segment",
-        b"\xa0\x86\x01\x00\x01\x00",
-        99_998,
-        "p4",
-    )?;
-    list_long(rt, "long_kind", b"\xa0\x86\x01\x00\x10\x00", 99_998, "p4")?;
-    list_long(rt, "long_whole", b"\xa0\x86\x01\x00\x02\x00", 99_766, "p4")?;
-    list_long(
-        rt,
-        "long_cut_by_one",
-        b"\xa0\x86\x01\x00\x02\x00",
-        99_765,
-        "p4",
-    )?;
-    list_long(rt, "long_cut", b"\xff\xff\xff\xff\x0f\x00", 70_000, "p4")
+fn make_file(rt: &HostRuntime, long: &Long) -> io::Result<()> {
+    let mut made = File::create(rt, long.name)?;
+    made.write_all(&long.length.to_le_bytes())?;
+    made.write_all(&long.kind.to_le_bytes())?;
+    io::copy(&mut io::repeat(0).take(long.zeros), &mut made)?;
+    io::copy(&mut File::open(rt, long.behind)?, &mut made)?;
+    Ok(())
 }
 
 // Argument 0 is the program's own name.
@@ -93,6 +115,9 @@ fn main(rt: HostRuntime) -> io::Result<()> {
     for name in env::args(&rt)?.skip(1) {
         list_file(&rt, &name)?;
     }
-    list_passed(&rt)?;
-    list_refused(&rt)
+    for long in PASSED.iter().chain(&REFUSED) {
+        make_file(&rt, long)?;
+        list_file(&rt, long.name)?;
+    }
+    Ok(())
 }

@@ -7,7 +7,7 @@ ghost use Rattle.tables.specs.Regions.{state_in};
 ghost use Rattle.lists.specs.Buffer.{Put};
 ghost use Rattle.listing_steps.specs.Due.{Due};
 
-use ring_lines::{printed, put_rings};
+use ring_lines::put_rings;
 use tables::{MAX_HALF_EDGES, PlanarGraph, TARGETS};
 
 // How many bytes the longest listing has at most: line one, and a line of 78 bytes for each half-edge,
@@ -52,11 +52,11 @@ fn put_cut(
     let place = listing_text::put_head(
         out,
         0,
-        printed(graph.node_count),
-        printed(graph.edge_count),
-        printed(dangles),
-        printed(cuts),
-        printed(rings.count),
+        u64::from(graph.node_count),
+        u64::from(graph.edge_count),
+        u64::from(dangles),
+        u64::from(cuts),
+        u64::from(rings.count),
         rings.euler,
     );
     put_rings(

@@ -8,24 +8,13 @@ ghost use Rattle.listing_text.specs.Rooms.{head_room, ring_room_lem, refusal_roo
 ghost use Rattle.lists.specs.Buffer.{Put};
 
 use number_text::{put_labelled, put_signed, put_text};
-use tables::{DirEdgeId, FaceId, NodeId, wide};
+use tables::{DirEdgeId, FaceId, NodeId};
 
 // The node at which a half-edge starts: 0 past the table's end.
 fn origin(dir_edges_src: &[u16], half: DirEdgeId) -> NodeId
     ensures { result.0 ≡ get_or dir_edges_src.now half.0 0 }
 {
-    let i = wide(half.0);
-    if i < dir_edges_src.len() {
-        return NodeId(dir_edges_src[i]);
-    }
-    NodeId(0)
-}
-
-// A node's number, for printing.
-fn node_number(node: NodeId) -> u64
-    ensures { result ≡ node.0 }
-{
-    node.0 as u64
+    NodeId(dir_edges_src.get(usize::from(half.0)).copied().unwrap_or(0))
 }
 
 // The nodes at which a ring's half-edges start, a space before each.
@@ -42,21 +31,20 @@ fn put_nodes(
     ensures { Put at (spaced (ring_nodes dir_edges_src.now half_edges.now first ring_length)) out.old out.new result }
 {
     let mut place = at;
-    let mut i = 0;
-    while i < ring_length {
+    for i in 0..ring_length {
         let half = half_edges[first + i];
         let node = origin(dir_edges_src, DirEdgeId(half));
-        place = put_labelled(out, place, b" ", node_number(node));
-        i += 1;
+        place = put_labelled(out, place, b" ", u64::from(node.0));
     }
     place
 }
 
-// A face's number, for printing.
+// A face's number, for printing. It is a function of its own for its clause: a proof reads there that the
+// number has 16 bits, which a parameter's field does not tell it.
 fn face_number(face: FaceId) -> u64
     ensures { (result ≡ face.0) × (result < 65536) }
 {
-    face.0 as u64
+    u64::from(face.0)
 }
 
 // Line one of the listing: five counts and the rings' verdict.

@@ -1,6 +1,6 @@
 -- What one turn of reading asks and leaves. Nothing names the bytes that a read brings but the buffer after it, so each turn's contract says
 -- that there are bytes, as many as it brought, and what became of them.
-use Rattle.std.specs.Prelude.{ℕ, ◌+◌, ◌<◌, ◌≤◌, ◌≡◌, Bool, true, cond, ◌&&◌, List, ◌++◌, ltb, leb, length, take, drop}
+use Rattle.std.specs.Prelude.{ℕ, ◌+◌, ◌<◌, ◌≤◌, ◌≡◌, Bool, true, cond, ◌&&◌, List, ◌++◌, ltb, leb, length, take, drop, Result}
 use Rattle.geometry.specs.Reply.{Reply, refused, success}
 use Rattle.rules.specs.Limits.{limits}
 use Rattle.rules.specs.State.{State}
@@ -11,7 +11,7 @@ use Rattle.buffered_input.specs.declared.Source.{Source}
 use Rattle.buffered_input.specs.declared.Source.TheVariants.{Open, Ended, Failed}
 use Rattle.taking.specs.Taking.{take_file_lem, waits}
 use Rattle.taking.specs.Answers.{reply_of}
-use Rattle.taking.specs.declared.TakeReply.{TakeReply}
+use Rattle.taking.specs.declared.TakeRefusal.{TakeRefusal}
 use Rattle.long_records.specs.declared.Turn.{Turn}
 
 -- ---- sizes
@@ -27,7 +27,7 @@ most_bytes = 4611686018427387904
 -- ---- whether to go on
 
 -- there may be more to take: no record was bad, and the input goes on
-abbrev pub goes_on_lem : TakeReply → Source → Bool
+abbrev pub goes_on_lem : Result (Unit {0}) TakeRefusal → Source → Bool
 goes_on_lem reply source = waits (reply_of reply) && is_open_lem source
 
 -- where more bytes have come than can be counted on, no more is read, as if a read had failed

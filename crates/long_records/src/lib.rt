@@ -8,10 +8,10 @@ ghost use Rattle.taking.specs.Answers.{reply_of};
 ghost use Rattle.long_records.specs.Turns.{goes_on_lem, capped, is_long_lem, long_reply_lem, passed_count_lem, Kept, Turned};
 
 use buffered_input::Source;
-use frames::{FileRefusal, Frame, LENGTH_BYTES, file_number};
+use frames::{FileRefusal, LENGTH_BYTES};
 use std::io::Read;
 use tables::PlanarGraph;
-use taking::TakeReply;
+use taking::TakeRefusal;
 
 // No multiple of a segment's bytes, so that records straddle two reads in every long file.
 pub const BUFFER_BYTES: usize = 65_536;
@@ -31,23 +31,19 @@ pub struct Turn {
     pub got: usize,
     pub kept: usize,
     pub count: usize,
-    pub reply: TakeReply,
+    pub reply: Result<(), TakeRefusal>,
     pub source: Source,
 }
 
-// Whether there may be more to take: no record was bad, and the input goes on. 9 is a record that is not
-// there to its end yet.
-pub fn goes_on(reply: TakeReply, source: Source) -> bool
+// Whether there may be more to take: no record was bad, and the input goes on. A short record is one that
+// is not there to its end yet.
+pub fn goes_on(reply: Result<(), TakeRefusal>, source: Source) -> bool
     ensures { result ≡ goes_on_lem reply source }
 {
     match reply {
-        TakeReply::Done => buffered_input::is_open(source),
-        TakeReply::Refused(number) => {
-            if number != file_number(FileRefusal::Short) {
-                return false;
-            }
-            buffered_input::is_open(source)
-        }
+        Ok(()) => buffered_input::is_open(source),
+        Err(TakeRefusal::Record(FileRefusal::Short)) => buffered_input::is_open(source),
+        Err(_) => false,
     }
 }
 
@@ -79,28 +75,23 @@ pub fn is_long(buffer: &[u8], kept: usize) -> bool
 }
 
 // The answer to a record that was not held: passed over or refused, or 9 where the input ended inside it.
-fn long_reply(source: Source, length: u32, kind: u16) -> TakeReply
+fn long_reply(source: Source, length: u32, kind: u16) -> Result<(), TakeRefusal>
     ensures { reply_of result ≡ long_reply_lem source length kind }
 {
     if !buffered_input::is_open(source) {
-        return TakeReply::Refused(file_number(FileRefusal::Short));
+        return Err(TakeRefusal::Record(FileRefusal::Short));
     }
-    match frames::whole_frame(length, kind) {
-        Frame::Segment(_) => TakeReply::Done,
-        Frame::Ring(_) => TakeReply::Done,
-        Frame::Skipped(_, _) => TakeReply::Done,
-        Frame::End => TakeReply::Done,
-        Frame::Refused(why) => TakeReply::Refused(file_number(why)),
-    }
+    frames::whole_frame(length, kind)?;
+    Ok(())
 }
 
 // How many records that answer counts.
-fn passed_count(reply: TakeReply) -> usize
+fn passed_count(reply: Result<(), TakeRefusal>) -> usize
     ensures { result ≡ passed_count_lem (reply_of reply) }
 {
     match reply {
-        TakeReply::Done => 1,
-        TakeReply::Refused(_) => 0,
+        Ok(()) => 1,
+        Err(_) => 0,
     }
 }
 

@@ -32,12 +32,10 @@ pub fn enter_halves(
     requires by_index { (i : ℕ) → i < to → (get_or nodes_outgoing.now i 0 < length dir_edges_src.now) × (get_or nodes_outgoing.now i 0 < length dir_edges_dst.now) }
     ensures { HalvesChained to dir_edges_src.now dir_edges_dst.now nodes_outgoing.now half_chains.new }
 {
-    let mut i = from;
-    while i < to {
+    for i in from..to {
         let h = nodes_outgoing[i as usize];
         let code = half_code(dir_edges_src, dir_edges_dst, DirEdgeId(h));
         chains::enter(half_chains, HALF_HEADS, code, i);
-        i += 1;
     }
 }
 

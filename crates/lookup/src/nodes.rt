@@ -26,11 +26,9 @@ pub fn enter_nodes(nodes_x: &[f64], nodes_y: &[f64], node_chains: &mut [u16], fr
     requires from_le_to { (from ≤ to) × (to ≤ length nodes_x.now) × (to ≤ length nodes_y.now) × (node_heads + to ≤ length node_chains.old) }
     ensures { NodesChained to nodes_x.now nodes_y.now node_chains.new }
 {
-    let mut n = from;
-    while n < to {
+    for n in from..to {
         let code = node_code(nodes_x, nodes_y, NodeId(n));
         chains::enter(node_chains, NODE_HEADS, code, n);
-        n += 1;
     }
 }
 

@@ -26,6 +26,7 @@ use Rattle.tables.specs.declared.ids.EdgeId.{EdgeId}
 use Rattle.tables.proofs.SliceRoom.{room_of}
 use Rattle.adding.specs.Outcomes.{Ready}
 use Rattle.searching.specs.Searches.{find_half_in}
+use Rattle.std.specs.Prelude.{Ok}
 use Rattle.adding.specs.declared.Decision.TheVariants.{Enter}
 use Rattle.adding.proofs.Carrying.{between, decided, enterable}
 use Rattle.table_entries.specs.Written.{IdRoom}
@@ -78,7 +79,7 @@ module _ (g : Line3D) (graph : PlanarGraph) (floats : List Float) (numbers stars
     half_is = found.half ∙ ap₂ (find_half_in held.edges held.source held.target held.star) found.start found.end
 
     -- an id that is to be entered can be written, at the place that is told
-    pub enter_room : (k : EdgeId) → decided g held ready ≡ Enter k → IdRoom limits k.0 g.line_id spot.behind spot.free numbers ids
+    pub enter_room : (k : EdgeId) → decided g held ready ≡ Ok (Enter k) → IdRoom limits k.0 g.line_id spot.behind spot.free numbers ids
     enter_room k d =
         let e = enterable g held ready k d in
         let i = g.line_id in

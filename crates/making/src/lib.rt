@@ -10,9 +10,9 @@ ghost use Rattle.adding.specs.Outcomes.{Ready, reply_of};
 ghost use Rattle.adding.specs.Written.{Makeable};
 ghost use Rattle.making.specs.Matching.{FoundIn, PlacedIn};
 
-use adding::{AddReply, Added, Decision, Ends, decide};
+use adding::{Decision, Ends, LineEdge, decide};
 use geometry::Line3D;
-use tables::{DirEdgeId, EdgeId, NodeId, PlanarGraph};
+use tables::{Answer, DirEdgeId, EdgeId, NodeId, PlanarGraph};
 use writing::{add_edge, add_node, enter_id};
 
 // What the searches found for a line: the nodes of its ends, each the node count where there is none,
@@ -86,7 +86,7 @@ pub fn add_found(
     stars: &mut [u16],
     marks: &mut [bool],
     ids: &mut [u32],
-) -> Added
+) -> Answer<LineEdge>
     requires ready { Ready limits (state_in limits graph floats.old numbers.old stars.old marks.old ids.old) }
     requires found_in { FoundIn limits line graph floats.old numbers.old stars.old matches }
     requires placed_in { PlacedIn limits line (state_in limits graph floats.old numbers.old stars.old marks.old ids.old) matches spot }
@@ -98,23 +98,23 @@ pub fn add_found(
     let half = matches.half;
     let free = spot.free;
     match decide(graph, line, start, end, half, spot.known, free) {
-        Decision::Refuse(why) => Added {
+        Err(why) => Answer {
             graph,
-            reply: AddReply::Refused(why),
+            reply: Err(why),
         },
-        Decision::Keep(edge) => Added {
+        Ok(Decision::Keep(edge)) => Answer {
             graph,
-            reply: AddReply::Old(edge),
+            reply: Ok(LineEdge::Old(edge)),
         },
-        Decision::Enter(edge) => {
+        Ok(Decision::Enter(edge)) => {
             enter_id(edge, line.line_id, spot.behind, free, numbers, ids);
-            let reply = AddReply::Old(edge);
-            Added { graph, reply }
+            let reply = Ok(LineEdge::Old(edge));
+            Answer { graph, reply }
         }
-        Decision::Make(ends) => {
-            let reply = AddReply::New(EdgeId(graph.edge_count));
+        Ok(Decision::Make(ends)) => {
+            let reply = Ok(LineEdge::New(EdgeId(graph.edge_count)));
             let more = make(graph, ends, free, line, floats, numbers, stars, marks, ids);
-            Added { graph: more, reply }
+            Answer { graph: more, reply }
         }
     }
 }

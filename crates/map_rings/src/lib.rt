@@ -8,7 +8,6 @@ ghost use Rattle.extracting.specs.Extraction.{lists_of};
 ghost use Rattle.map_steps.specs.Stands.{Stands};
 ghost use Rattle.map_steps.specs.Rings.{Wide, Rung};
 
-use ring_entry::RingReply;
 use tables::PlanarGraph;
 
 // How many rings a cut graph has, and whether Euler's formula holds of them.
@@ -53,11 +52,11 @@ pub fn ring_map(
     );
     let reply = done.reply;
     match reply {
-        RingReply::Rings(count, census, comparisons) => RingMap {
-            count,
-            euler: census.verdict,
+        Ok(rings) => RingMap {
+            count: rings.count,
+            euler: rings.census.verdict,
         },
-        RingReply::Refused(_) => RingMap {
+        Err(_) => RingMap {
             count: 0,
             euler: false,
         },

@@ -10,8 +10,6 @@ ghost use Rattle.tables.specs.Regions.{state_in};
 ghost use Rattle.map_steps.specs.Stands.{Stands};
 ghost use Rattle.map_steps.specs.Maps.{pruning, cutting, cut_map_lem};
 
-use cut_entry::CutReply;
-use prune_entry::PruneReply;
 use tables::{MAX_EDGES, PlanarGraph};
 
 // The counts and the stage after a step that marks edges, and how many it marked.
@@ -64,11 +62,11 @@ fn prune_map(
     let after = done.graph;
     let reply = done.reply;
     match reply {
-        PruneReply::Dangles(count) => Marked {
+        Ok(count) => Marked {
             graph: after,
             count,
         },
-        PruneReply::Refused(_) => Marked {
+        Err(_) => Marked {
             graph: after,
             count: 0,
         },
@@ -101,11 +99,11 @@ fn mark_cuts(
     let after = done.graph;
     let reply = done.reply;
     match reply {
-        CutReply::Cuts(count, _) => Marked {
+        Ok(cuts) => Marked {
             graph: after,
-            count,
+            count: cuts.count,
         },
-        CutReply::Refused(_) => Marked {
+        Err(_) => Marked {
             graph: after,
             count: 0,
         },

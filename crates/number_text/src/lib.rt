@@ -2,7 +2,7 @@
 // it wrote; every other byte of the buffer keeps its contents.
 #![tactic(auto)]
 
-ghost use Rattle.std.specs.Prelude.{◌≡◌, ◌+◌, ◌<◌, ◌≤◌, nat_abs, length};
+ghost use Rattle.std.specs.Prelude.{◌≡◌, ◌+◌, ◌<◌, ◌≤◌, length};
 ghost use Rattle.file_rules.specs.Decimal.{digit, decimal, signed_decimal};
 ghost use Rattle.file_rules.specs.Lines.{labelled};
 ghost use Rattle.lists.specs.Buffer.{Put};
@@ -15,7 +15,7 @@ fn digit_byte(n: u64) -> u8
     b'0' + n as u8
 }
 
-// How many digits n has.
+// How many digits n has. The turns are what is counted, so that no range could give them: a `while`.
 fn digit_count(n: u64) -> usize
     ensures { result ≡ length (decimal n) }
 {
@@ -28,7 +28,8 @@ fn digit_count(n: u64) -> usize
     count
 }
 
-// n in decimal. The digits are found from the last to the first, so they are counted before.
+// n in decimal. The digits are found from the last to the first, so they are counted before. The `while`
+// ends with the number that is left, not with a place.
 pub fn put_number(out: &mut [u8], at: usize, n: u64) -> usize
     requires { at + length (decimal n) ≤ length out.old }
     ensures { Put at (decimal n) out.old out.new result }
@@ -50,12 +51,9 @@ pub fn put_text(out: &mut [u8], at: usize, text: &[u8]) -> usize
     requires { at + length text.now ≤ length out.old }
     ensures { Put at text.now out.old out.new result }
 {
-    let mut i = 0;
-    while i < text.len() {
-        out[at + i] = text[i];
-        i += 1;
-    }
-    at + i
+    let end = at + text.len();
+    out[at..end].copy_from_slice(text);
+    end
 }
 
 // A text and then a number.
@@ -67,19 +65,12 @@ pub fn put_labelled(out: &mut [u8], at: usize, label: &[u8], n: u64) -> usize
     put_number(out, place, n)
 }
 
-// The least i64 has no negative in its type, so one is added before the sign is turned.
-fn magnitude(n: i64) -> u64
-    ensures { result ≡ nat_abs n }
-{
-    if n < 0 { -(n + 1) as u64 + 1 } else { n as u64 }
-}
-
 // A minus sign where n is negative, and its size in decimal.
 pub fn put_signed(out: &mut [u8], at: usize, n: i64) -> usize
     requires { at + length (signed_decimal n) ≤ length out.old }
     ensures { Put at (signed_decimal n) out.old out.new result }
 {
-    let size = magnitude(n);
+    let size = n.unsigned_abs();
     if n < 0 {
         return put_labelled(out, at, b"-", size);
     }

@@ -6,7 +6,7 @@ ghost use Rattle.rules.specs.Limits.{limits};
 ghost use Rattle.rules.specs.LineIds.{list_end};
 ghost use Rattle.tables.specs.Regions.{sources_in, targets_in, list_places_in, links_in, line_ids_in, pair_ids_in, least_numbers, least_ids};
 
-use tables::{EdgeId, LINKS, LIST_PLACES, PAIR_IDS, wide};
+use tables::{EdgeId, LINKS, LIST_PLACES, PAIR_IDS};
 
 // An edge's list starts with the pair at a place, and goes on at the next.
 pub fn put_first(edge: EdgeId, place: u16, next: u16, numbers: &mut [u16])
@@ -16,8 +16,8 @@ pub fn put_first(edge: EdgeId, place: u16, next: u16, numbers: &mut [u16])
     ensures list { list_places_in limits numbers.new ≡ set (list_places_in limits numbers.old) edge.0 place }
     ensures link { links_in limits numbers.new ≡ set (links_in limits numbers.old) place next }
 {
-    numbers[LIST_PLACES + wide(edge.0)] = place;
-    numbers[LINKS + wide(place)] = next;
+    numbers[LIST_PLACES + usize::from(edge.0)] = place;
+    numbers[LINKS + usize::from(place)] = next;
 }
 
 // The pair at a place stands behind another, and leads to where that one led.
@@ -28,9 +28,9 @@ pub fn put_behind(behind: u16, place: u16, numbers: &mut [u16])
     ensures list { list_places_in limits numbers.new ≡ list_places_in limits numbers.old }
     ensures link { links_in limits numbers.new ≡ set (set (links_in limits numbers.old) place (get_or (links_in limits numbers.old) behind list_end)) behind place }
 {
-    let at = LINKS + wide(behind);
+    let at = LINKS + usize::from(behind);
     let next = numbers[at];
-    numbers[LINKS + wide(place)] = next;
+    numbers[LINKS + usize::from(place)] = next;
     numbers[at] = place;
 }
 
@@ -40,7 +40,7 @@ pub fn put_pair(place: u16, id: u32, ids: &mut [u32])
     ensures line { line_ids_in limits ids.new ≡ line_ids_in limits ids.old }
     ensures pair { pair_ids_in limits ids.new ≡ set (pair_ids_in limits ids.old) place id }
 {
-    ids[PAIR_IDS + wide(place)] = id;
+    ids[PAIR_IDS + usize::from(place)] = id;
 }
 
 // The id of a pair that its edge's list starts with: it is the edge's line id too.
@@ -49,8 +49,8 @@ pub fn put_lowest(edge: EdgeId, place: u16, id: u32, ids: &mut [u32])
     ensures line { line_ids_in limits ids.new ≡ set (line_ids_in limits ids.old) edge.0 id }
     ensures pair { pair_ids_in limits ids.new ≡ set (pair_ids_in limits ids.old) place id }
 {
-    let line = wide(edge.0);
-    let pair = PAIR_IDS + wide(place);
+    let line = usize::from(edge.0);
+    let pair = PAIR_IDS + usize::from(place);
     ids[line] = id;
     ids[pair] = id;
 }

@@ -11,6 +11,7 @@ use lib.Signed.{lt_z}
 use Rattle.lists.proofs.Counts.{by_test, by_eq, by_lt, true_is_false}
 use Rattle.rules.proofs.Orders.{order_int}
 use Rattle.candidate_order.specs.Order.{number_in}
+use Rattle.std.specs.Int.{int_min}
 use Rattle.passing.specs.Passing.{LeastAreas, Within, Reaches, EndsBefore}
 use Rattle.candidate_order.proofs.Ordering.{same_level}
 
@@ -32,6 +33,12 @@ module _ (numbers : List ℤ) (order : List ℕ) where
   lowest-old k lowest mine e f none i h = by_eq i k
       (λ q. (λ t. lt_z (number_in numbers order (q t) 4) lowest) ∙ ap (λ z. lt_z z lowest) (sym e) ∙ f)
       (λ d. none i (omega arith))
+
+  -- so the lower of the two is the lowest
+  pub lowest-min : (k : ℕ) (lowest mine : ℤ) → mine ≡ number_in numbers order k 4 → NoneBelow k lowest → NoneBelow (k + 1) (int_min lowest mine)
+  lowest-min k lowest mine e none = by_test (lt_z mine lowest)
+      (λ f. rw f (lowest-new k lowest mine e f none))
+      (λ f. rw f (lowest-old k lowest mine e f none))
 
   -- the table with the lowest of the first k + 1 at place k
   pub least_more : (k : ℕ) (least : List ℤ) (lowest : ℤ) → k < length least → NoneBelow (k + 1) lowest → LeastAreas numbers order k least

@@ -9,7 +9,6 @@ ghost use Rattle.passing.specs.Passing.{LeastAreas, Within, Reaches, Passable, E
 
 use candidate_order::number_at;
 use candidates::{AREA, BEYOND, HIGH_X, doubled_of};
-use tables::wide;
 
 // The least doubled area from the beginning to each place.
 fn write_least(numbers: &[i64], order: &[u16], count: usize, least: &mut [i64])
@@ -17,14 +16,9 @@ fn write_least(numbers: &[i64], order: &[u16], count: usize, least: &mut [i64])
     ensures { LeastAreas numbers.now order.now count least.new }
 {
     let mut lowest = BEYOND;
-    let mut k = 0;
-    while k < count {
-        let mine = number_at(numbers, order, count, k, AREA);
-        if mine < lowest {
-            lowest = mine;
-        }
+    for k in 0..count {
+        lowest = lowest.min(number_at(numbers, order, count, k, AREA));
         least[k] = lowest;
-        k += 1;
     }
 }
 
@@ -40,7 +34,7 @@ fn reach_back(numbers: &[i64], order: &[u16], count: usize, k: usize, reaches: &
         if right < number_at(numbers, order, count, from - 1, HIGH_X) {
             return from;
         }
-        from = wide(reaches[from - 1]);
+        from = usize::from(reaches[from - 1]);
     }
     0
 }
@@ -50,11 +44,9 @@ fn write_reaches(numbers: &[i64], order: &[u16], count: usize, reaches: &mut [u1
     requires { InOrder numbers.now count order.now × (count ≤ length reaches.old) × (count ≤ 65536) }
     ensures { Reaches numbers.now order.now count reaches.new }
 {
-    let mut k = 0;
-    while k < count {
+    for k in 0..count {
         let from = reach_back(numbers, order, count, k, reaches);
         reaches[k] = from as u16;
-        k += 1;
     }
 }
 
@@ -98,7 +90,7 @@ pub fn next_end(
     ensures { (result ≤ k) × EndsBefore numbers.now order.now x result k }
 {
     if number_at(numbers, order, count, k, HIGH_X) < x {
-        return wide(reaches[k]);
+        return usize::from(reaches[k]);
     }
     k
 }

@@ -7,14 +7,14 @@ ghost use Rattle.seeds.specs.Reach.{reach_new, ends_of_lem, Reached, Takeable, F
 
 use seeds::end_of;
 use stars::is_active;
-use tables::{DirEdgeId, NodeId, wide};
+use tables::{DirEdgeId, NodeId};
 
 // A node that has no number gets the piece's and goes on the stack.
 fn reach(node: NodeId, piece: u16, pieces: &mut [u16], stack: &mut [u16], top: usize) -> usize
     requires { (node.0 < length pieces.old) × (top + length (reach_new piece (node.0 ∷ []) pieces.old) ≤ length stack.old) }
     ensures { Reached piece (node.0 ∷ []) pieces.old stack.old pieces.new stack.new top result }
 {
-    let n = wide(node.0);
+    let n = usize::from(node.0);
     if pieces[n] == 0 {
         pieces[n] = piece;
         stack[top] = node.0;
@@ -39,14 +39,12 @@ fn reach_star(
     ensures { Reached piece (ends_of_lem dir_edges_src.now dir_edges_marked.now (part from to grouped.now)) pieces.old stack.old pieces.new stack.new top result }
 {
     let mut height = top;
-    let mut i = from;
-    while i < to {
+    for i in from..to {
         let half = DirEdgeId(grouped[i]);
         if is_active(dir_edges_marked, half) {
             let end = end_of(dir_edges_src, half);
             height = reach(end, piece, pieces, stack, height);
         }
-        i += 1;
     }
     height
 }
@@ -65,9 +63,9 @@ fn spread_node(
     requires { Takeable dir_edges_src.now dir_edges_marked.now offsets.now grouped.now piece pieces.old stack.old top }
     ensures { Reached piece (ends_of_lem dir_edges_src.now dir_edges_marked.now (group_of offsets.now grouped.now (get_or stack.old top 0))) pieces.old stack.old pieces.new stack.new top result }
 {
-    let n = wide(stack[top]);
-    let from = wide(offsets[n]);
-    let to = wide(offsets[n + 1]);
+    let n = usize::from(stack[top]);
+    let from = usize::from(offsets[n]);
+    let to = usize::from(offsets[n + 1]);
     reach_star(
         grouped,
         from,

@@ -5,7 +5,7 @@ ghost use Rattle.seeds.specs.Numbers.{InEachState, Numbered, Swept, Sweepable, N
 
 use crate::fill::fill_piece;
 use seeds::order_seeds;
-use tables::{MAX_NODES, NodeId, PlanarGraph, wide};
+use tables::{MAX_NODES, NodeId, PlanarGraph};
 
 // Goes through the first `seeds` entries of the order: one that has no number yet begins the next piece.
 // Answers how many pieces there are.
@@ -23,10 +23,9 @@ fn fill_seeds(
     ensures { Swept dir_edges_src.now dir_edges_marked.now offsets.now grouped.now (take seeds order.now) pieces.old pieces.new result }
 {
     let mut count: u16 = 0;
-    let mut i = 0;
-    while i < seeds {
+    for i in 0..seeds {
         let seed = NodeId(order[i]);
-        let untouched = pieces[wide(seed.0)] == 0;
+        let untouched = pieces[usize::from(seed.0)] == 0;
         if untouched {
             count += 1;
             fill_piece(
@@ -40,7 +39,6 @@ fn fill_seeds(
                 stack,
             );
         }
-        i += 1;
     }
     count
 }

@@ -13,16 +13,20 @@ ghost use Rattle.line_ids.specs.Free.{used_marks, Ending, free_from};
 ghost use Rattle.adding.specs.Outcomes.{reply_of};
 ghost use Rattle.placing.specs.Placing.{SeekableIn};
 
-use adding::AddReply;
+use adding::LineEdge;
 use line_ids::{Sought, mark_used, next_free, seek_id};
-use tables::{DirEdgeId, EdgeId, LINKS, LIST_END, LIST_PLACES, MAX_PAIRS, PAIR_IDS, wide};
+use tables::{DirEdgeId, EdgeId, LINKS, LIST_END, LIST_PLACES, MAX_PAIRS, PAIR_IDS, Refusal};
 
 // The places that the lists of that many edges use.
 pub fn mark_lists(edges: u16, numbers: &[u16]) -> [bool; MAX_PAIRS]
     requires { (least_numbers limits ≤ length numbers.now) × Ending limits.pairs (list_places_in limits numbers.now) (links_in limits numbers.now) edges }
     ensures { result ≡ used_marks limits.pairs (list_places_in limits numbers.now) (links_in limits numbers.now) edges }
 {
-    mark_used(wide(edges), &numbers[LIST_PLACES..LINKS], &numbers[LINKS..])
+    mark_used(
+        usize::from(edges),
+        &numbers[LIST_PLACES..LINKS],
+        &numbers[LINKS..],
+    )
 }
 
 // Whether the edge of a half-edge has the id, and the place behind which it goes. A half-edge that is not
@@ -49,19 +53,24 @@ pub fn seek_line(edges: u16, half: DirEdgeId, id: u32, numbers: &[u16], ids: &[u
 
 // The lowest free place after an addition: the next one where it took a pair. Marks that were made before
 // serve on, since no addition frees a place.
-pub fn free_after(reply: AddReply, known: bool, free: u16, used: &[bool; MAX_PAIRS]) -> u16
+pub fn free_after(
+    reply: Result<LineEdge, Refusal>,
+    known: bool,
+    free: u16,
+    used: &[bool; MAX_PAIRS],
+) -> u16
     requires { entered known (reply_of reply) ≡ true → free + 1 ≤ limits.pairs }
     ensures { result ≡ cond (entered known (reply_of reply)) (free_from used.now (free + 1) limits.pairs) free }
 {
     match reply {
-        AddReply::New(_) => next_free(free + 1, used),
-        AddReply::Old(_) => {
+        Ok(LineEdge::New(_)) => next_free(free + 1, used),
+        Ok(LineEdge::Old(_)) => {
             if known {
                 free
             } else {
                 next_free(free + 1, used)
             }
         }
-        AddReply::Refused(_) => free,
+        Err(_) => free,
     }
 }

@@ -4,19 +4,21 @@
 #![tactic(auto)]
 
 pub use add_entry::add_line;
-pub use adding::{AddReply, Added};
-pub use calls::{StepReply, Stepped};
-pub use create_entry::{Created, create};
-pub use cut_entry::{CutReply, Cutting, delete_cut_edges};
+pub use adding::LineEdge;
+pub use create_entry::create;
+pub use cut_entry::{CutEdges, delete_cut_edges};
 pub use cycles::Census;
 pub use file_entry::add_records;
-pub use file_taking::{FileAdded, FileReply};
+pub use file_taking::FileTaken;
+pub use frames::FileRefusal;
 pub use geometry::{Coord3D, Line3D};
-pub use hole_entry::{Ringed, RingsReply, extract_rings};
+pub use hole_entry::{RingsAndHoles, extract_rings};
 pub use holes::Hole;
-pub use prune_entry::{PruneReply, Pruned, prune_dangles};
+pub use prune_entry::prune_dangles;
 pub use reset_entry::reset;
-pub use ring_sides::{NoSide, SideReply, side_at};
+pub use ring_entry::Rings;
+pub use ring_sides::{NoSide, side_at};
 pub use ring_tally::RingSide;
 pub use sort_entry::sort_edges;
-pub use tables::{DirEdgeId, EdgeId, FaceId, NodeId, PlanarGraph, Refusal};
+pub use tables::{Answer, DirEdgeId, EdgeId, FaceId, NodeId, PlanarGraph, Refusal};
+pub use taking::TakeRefusal;

@@ -19,8 +19,7 @@ use Rattle.rules.proofs.PrunedTables.{sound-stars, sound-counted}
 use Rattle.tables.specs.declared.Refusal.{Refusal}
 use Rattle.tables.specs.declared.Refusal.TheVariants.{ListTooShort}
 use Rattle.leaves.specs.Given.{origin_in}
-use Rattle.calls.specs.Checks.{stage_check}
-use Rattle.calls.specs.declared.checks.Checked.TheVariants.{Refused}
+use Rattle.calls.specs.Checks.{stage_check, due}
 use Rattle.calls.proofs.Shells.{turned_down_lem, Good, step_stops, list_stops, list_passes}
 
 -- the star of a node in a state's tables
@@ -42,7 +41,7 @@ pruning s out =
     }
 
 module _ (l : Limits) (s : State) (out : List ℕ) where
-  pub prune_stops : (why : Refusal) → Refused why ≡ stage_check l 1 s → turned_down_lem why s out ≡ prune_step l s out
+  pub prune_stops : (why : Refusal) → due why ≡ stage_check l 1 s → turned_down_lem why s out ≡ prune_step l s out
   unfolding prune_step
   prune_stops why e = step_stops l 1 s out _ why e
 

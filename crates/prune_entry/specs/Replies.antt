@@ -1,11 +1,9 @@
 -- Document 01's number and value for each case of the reply.
-use Rattle.std.specs.Prelude.{ℕ}
-use Rattle.geometry.specs.Reply.{Reply, refused, success}
-use Rattle.tables.specs.Refusals.{refusal_number_lem}
-use Rattle.prune_entry.specs.declared.PruneReply.{PruneReply}
-use Rattle.prune_entry.specs.declared.PruneReply.TheVariants.{Dangles, Refused}
+use Rattle.std.specs.Prelude.{ℕ, Result}
+use Rattle.geometry.specs.Reply.{Reply}
+use Rattle.tables.specs.Refusals.{reply_by}
+use Rattle.tables.specs.declared.Refusal.{Refusal}
 
 -- the count, or the number
-abbrev pub prune_reply : PruneReply → Reply ℕ
-prune_reply (Dangles n) = success n
-prune_reply (Refused why) = refused (refusal_number_lem why)
+abbrev pub prune_reply : Result ℕ Refusal → Reply ℕ
+prune_reply = reply_by (λ n. n)

@@ -9,23 +9,8 @@ ghost use Rattle.prune_entry.specs.Clause.{Prunes};
 mod regions;
 mod rows;
 
-use calls::Checked;
 use regions::prune_regions;
-use tables::{PlanarGraph, Refusal};
-
-// What pruning answers: how many dangles it listed, or a refusal.
-#[derive(Clone, Copy)]
-pub enum PruneReply {
-    Dangles(u16),
-    Refused(Refusal),
-}
-
-// The counts and the stage after the call, and its answer.
-#[derive(Clone, Copy)]
-pub struct Pruned {
-    pub graph: PlanarGraph,
-    pub reply: PruneReply,
-}
+use tables::{Answer, PlanarGraph, Refusal};
 
 // Numbers 6, 7, 5 and 8; then dangles are marked, and `out` gets their edges in the order found.
 pub fn prune_dangles(
@@ -36,7 +21,7 @@ pub fn prune_dangles(
     marks: &mut [bool],
     ids: &[u32],
     out: &mut [u16],
-) -> Pruned
+) -> Answer<u16>
     ensures { Prunes
         (state_in limits graph floats.now numbers.now stars.old marks.old ids.now)
         out.old
@@ -45,22 +30,22 @@ pub fn prune_dangles(
         out.new }
 {
     let checked = calls::check_stage(1, graph, floats, numbers, stars, marks, ids);
-    if let Checked::Refused(why) = checked {
-        return Pruned {
+    if let Err(why) = checked {
+        return Answer {
             graph,
-            reply: PruneReply::Refused(why),
+            reply: Err(why),
         };
     }
-    if out.len() < tables::wide(graph.edge_count) {
-        return Pruned {
+    if out.len() < usize::from(graph.edge_count) {
+        return Answer {
             graph,
-            reply: PruneReply::Refused(Refusal::ListTooShort),
+            reply: Err(Refusal::ListTooShort),
         };
     }
     let done = prune_regions(graph, numbers, stars, marks, out);
     let after = done.graph;
-    Pruned {
+    Answer {
         graph: after,
-        reply: PruneReply::Dangles(done.count),
+        reply: Ok(done.count),
     }
 }

@@ -10,7 +10,7 @@ ghost use Rattle.leaves.specs.Steps.{latest, tables_at, Reached, Turning};
 ghost use Rattle.pruning.specs.Left.{Left};
 
 use leaves::{Progress, first_active, stack_leaves, take_node};
-use tables::{MAX_NODES, NodeId, PlanarGraph, wide};
+use tables::{MAX_NODES, NodeId, PlanarGraph};
 
 // The graph in stage 2, and how many edges were taken away.
 #[derive(Clone, Copy)]
@@ -37,15 +37,15 @@ fn turn(
     let stacked = at.stacked - 1;
     let found = at.found;
     let node = NodeId(stack[stacked]);
-    let n = wide(node.0);
+    let n = usize::from(node.0);
     let rest = Progress { stacked, found };
     if nodes_degree[n] != 1 {
         return rest;
     }
     let half = first_active(
         grouped,
-        wide(offsets[n]),
-        wide(offsets[n + 1]),
+        usize::from(offsets[n]),
+        usize::from(offsets[n + 1]),
         dir_edges_marked,
     );
     take_node(

@@ -12,10 +12,10 @@ ghost use Rattle.tables.specs.Regions.{state_in};
 ghost use Rattle.taking.specs.Taking.{take_record_lem};
 ghost use Rattle.taking.specs.Answers.{turn_of};
 
-use frames::file_number;
 use segment_file::Record;
+use std::ops::ControlFlow;
 use tables::{MAX_PAIRS, PlanarGraph};
-use taking::{Next, TakeReply, Turn, after_adding};
+use taking::{TakeRefusal, Turn, after_adding};
 
 // The record at a place: a segment is added to the graph, which is in stage 0, passed numbers 6 and 7
 // and is chained, with the lowest free place told. Another record is passed over.
@@ -42,7 +42,7 @@ pub fn take_record(
     ensures chains { Indexed limits (state_in limits result.graph floats.new numbers.new stars.new marks.new ids.new) node_chains.new half_chains.new }
 {
     match segment_file::read_record(bytes, at) {
-        Record::Segment(line, size) => {
+        Ok(Some(Record::Segment(line, size))) => {
             let added = indexing::add_chained(
                 graph,
                 line,
@@ -64,19 +64,19 @@ pub fn take_record(
                 free: added.free,
             }
         }
-        Record::Passed(size) => Turn {
+        Ok(Some(Record::Passed(size))) => Turn {
             graph,
-            next: Next::Onward(size),
+            next: ControlFlow::Continue(size),
             free,
         },
-        Record::Refused(why) => Turn {
+        Ok(None) => Turn {
             graph,
-            next: Next::Ended(TakeReply::Refused(file_number(why))),
+            next: ControlFlow::Break(Ok(())),
             free,
         },
-        Record::End => Turn {
+        Err(why) => Turn {
             graph,
-            next: Next::Ended(TakeReply::Done),
+            next: ControlFlow::Break(Err(TakeRefusal::Record(why))),
             free,
         },
     }

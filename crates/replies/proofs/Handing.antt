@@ -17,8 +17,7 @@ use Rattle.tables.specs.Refusals.{refusal_number_lem}
 use Rattle.tables.specs.declared.PlanarGraph.{PlanarGraph}
 use Rattle.tables.specs.declared.Refusal.{Refusal}
 use Rattle.calls.specs.Replies.{left_with}
-use Rattle.calls.specs.declared.checks.Checked.{Checked}
-use Rattle.calls.specs.declared.checks.Checked.TheVariants.{Passed, Refused}
+use Rattle.calls.specs.Checks.{Checked, passed, due}
 use Rattle.calls.proofs.Refusals.{Keeps}
 use Rattle.calls.proofs.Shells.{passes}
 use Rattle.lent_marks.specs.Marks.{is_set, marks_in, lent_state, plain, blended, marks_of}
@@ -63,7 +62,7 @@ check_read k g e r c = c ∙ ap (λ z. marks_check limits (lent_state limits z k
 
 module _ {A L : Type 0} (values : A → List ℕ) (k : Lent L) (o : Outcome A L) where
   -- they refuse the call
-  pub turned-away : (why : Refusal) → Refused why ≡ check_of k → (number : ℕ) → number ≡ refusal_number_lem why
+  pub turned-away : (why : Refusal) → due why ≡ check_of k → (number : ℕ) → number ≡ refusal_number_lem why
       → gives number k ≡ asked values k o
   turned-away why e number told =
       let s = held_in k in
@@ -71,7 +70,7 @@ module _ {A L : Type 0} (values : A → List ℕ) (k : Lent L) (o : Outcome A L)
       ∙ ap (handed values k) (checked_refused s k.lists o (roomy limits s) (plain limits s.nodes s.edges k.bytes) why e)
 
   -- they let it in
-  pub let_in : Passed ≡ check_of k → handed values k o ≡ asked values k o
+  pub let_in : passed ≡ check_of k → handed values k o ≡ asked values k o
   let_in e =
       let s = held_in k in
       let b = plain limits s.nodes s.edges k.bytes in
@@ -79,14 +78,14 @@ module _ {A L : Type 0} (values : A → List ℕ) (k : Lent L) (o : Outcome A L)
       ap (handed values k) (passes 7 s k.lists o b t.1 ∙ passes 6 s k.lists _ (roomy limits s) t.0)
 
 -- where they pass there are bytes enough
-pub bytes-enough : {L : Type 0} (k : Lent L) → Passed ≡ check_of k → least_marks limits ≤ length k.bytes
+pub bytes-enough : {L : Type 0} (k : Lent L) → passed ≡ check_of k → least_marks limits ≤ length k.bytes
 bytes-enough k e =
     let s = held_in k in
     let t = checked_passed (roomy limits s) (plain limits s.nodes s.edges k.bytes) e in
     bytes-room limits (graph_in k.small) k.floats k.numbers k.stars k.bytes k.ids t.0
 
 -- and the row has its size
-pub row-size : {L : Type 0} (k : Lent L) → Passed ≡ check_of k → (row : List Bool) → row ≡ marks_in limits k.bytes → length row ≡ least_marks limits
+pub row-size : {L : Type 0} (k : Lent L) → passed ≡ check_of k → (row : List Bool) → row ≡ marks_in limits k.bytes → length row ≡ least_marks limits
 row-size k e row r =
     let enough = bytes-enough k e in
     let size = length-map k.bytes is_set in

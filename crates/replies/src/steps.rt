@@ -7,20 +7,18 @@ ghost use Rattle.replies.specs.Lent.{Answered};
 ghost use Rattle.replies.specs.Values.{no_values, count_value_lem, cut_values};
 
 use crate::small::{CENSUS_LENGTH, COUNT_LENGTH, STATE_LENGTH, flag, write_state};
-use calls::{StepReply, Stepped};
-use cut_entry::{CutReply, Cutting};
-use prune_entry::{PruneReply, Pruned};
-use tables::refusal_number;
+use cut_entry::CutEdges;
+use tables::{Answer, refusal_number};
 
 // Sorting and resetting have no values.
-pub fn answer_step(state: &mut [u16; STATE_LENGTH], done: Stepped) -> u32
+pub fn answer_step(state: &mut [u16; STATE_LENGTH], done: Answer<()>) -> u32
     ensures { Answered no_values (step_reply done.reply) done.graph state.old [] result state.new [] }
 {
     let answer = done.reply;
     let graph = done.graph;
     match answer {
-        StepReply::Refused(why) => refusal_number(why),
-        StepReply::Done => {
+        Err(why) => refusal_number(why),
+        Ok(()) => {
             write_state(state, graph);
             0
         }
@@ -31,15 +29,15 @@ pub fn answer_step(state: &mut [u16; STATE_LENGTH], done: Stepped) -> u32
 pub fn answer_pruned(
     state: &mut [u16; STATE_LENGTH],
     reply: &mut [u16; COUNT_LENGTH],
-    done: Pruned,
+    done: Answer<u16>,
 ) -> u32
     ensures { Answered count_value_lem (prune_reply done.reply) done.graph state.old reply.old result state.new reply.new }
 {
     let answer = done.reply;
     let graph = done.graph;
     match answer {
-        PruneReply::Refused(why) => refusal_number(why),
-        PruneReply::Dangles(count) => {
+        Err(why) => refusal_number(why),
+        Ok(count) => {
             *reply = [count];
             write_state(state, graph);
             0
@@ -51,18 +49,19 @@ pub fn answer_pruned(
 pub fn answer_cutting(
     state: &mut [u16; STATE_LENGTH],
     reply: &mut [u16; CENSUS_LENGTH],
-    done: Cutting,
+    done: Answer<CutEdges>,
 ) -> u32
     ensures { Answered cut_values (cut_reply done.reply) done.graph state.old reply.old result state.new reply.new }
 {
     let answer = done.reply;
     let graph = done.graph;
     match answer {
-        CutReply::Refused(why) => refusal_number(why),
-        CutReply::Cuts(count, census) => {
+        Err(why) => refusal_number(why),
+        Ok(cuts) => {
+            let census = cuts.census;
             let verdict = flag(census.verdict);
             *reply = [
-                count,
+                cuts.count,
                 census.vertices,
                 census.edges,
                 census.cycles,

@@ -8,9 +8,8 @@ ghost use Rattle.reset_entry.specs.Clause.{Resets};
 
 mod regions;
 
-use calls::{Checked, StepReply, Stepped};
 use regions::reset_regions;
-use tables::PlanarGraph;
+use tables::{Answer, PlanarGraph};
 
 // Numbers 6 and 7; then nothing is marked, degrees are star lengths, and the stage is 0. Stars stay
 // as ordered.
@@ -21,22 +20,22 @@ pub fn reset(
     stars: &mut [u16],
     marks: &mut [bool],
     ids: &[u32],
-) -> Stepped
+) -> Answer<()>
     ensures { Resets
         (state_in limits graph floats.now numbers.now stars.old marks.old ids.now)
         (step_reply result.reply)
         (state_in limits result.graph floats.now numbers.now stars.new marks.new ids.now) }
 {
     let checked = calls::check_sound(graph, floats, numbers, stars, marks, ids);
-    if let Checked::Refused(why) = checked {
-        return Stepped {
+    if let Err(why) = checked {
+        return Answer {
             graph,
-            reply: StepReply::Refused(why),
+            reply: Err(why),
         };
     }
     let done = reset_regions(graph, numbers, stars, marks);
-    Stepped {
+    Answer {
         graph: done,
-        reply: StepReply::Done,
+        reply: Ok(()),
     }
 }

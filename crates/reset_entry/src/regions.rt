@@ -7,7 +7,7 @@ ghost use Rattle.table_tests.specs.Tests.{starts_at};
 ghost use Rattle.table_tests.specs.Given.{Resettable};
 ghost use Rattle.tables.specs.Regions.{sources_in, star_table_in, degrees_in, node_marks_in, half_marks_in, least_numbers, least_stars, least_marks};
 
-use tables::{DEGREES, HALF_MARKS, PlanarGraph, TARGETS, wide};
+use tables::{DEGREES, HALF_MARKS, PlanarGraph, TARGETS};
 
 // The three tables that resetting writes are each lent as a part. Counts and stars stay.
 pub fn reset_regions(
@@ -24,8 +24,8 @@ pub fn reset_regions(
     ensures nodes { node_marks_in limits marks.new ≡ over (replicate graph.node_count false) (node_marks_in limits marks.old) }
     ensures halves { half_marks_in limits marks.new ≡ over (replicate (2 * graph.edge_count) false) (half_marks_in limits marks.old) }
 {
-    let nodes = wide(graph.node_count);
-    let halves = 2 * wide(graph.edge_count);
+    let nodes = usize::from(graph.node_count);
+    let halves = 2 * usize::from(graph.edge_count);
     let counts = table_tests::count_starts(halves, &numbers[0..TARGETS]);
     table_tests::write_degrees(nodes, &counts, &mut stars[DEGREES..]);
     table_tests::clear_marks(nodes, &mut marks[0..HALF_MARKS]);

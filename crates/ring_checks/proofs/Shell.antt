@@ -8,12 +8,11 @@ use Rattle.rules.specs.State.{State}
 use Rattle.rules.specs.Ringing.{RingLists, long_enough, ringed, ring_step}
 use Rattle.tables.specs.declared.Refusal.{Refusal}
 use Rattle.tables.specs.declared.Refusal.TheVariants.{ListTooShort}
-use Rattle.calls.specs.Checks.{stage_check}
-use Rattle.calls.specs.declared.checks.Checked.TheVariants.{Refused}
+use Rattle.calls.specs.Checks.{stage_check, due}
 use Rattle.calls.proofs.Shells.{turned_down_lem, Good, step_stops, list_stops}
 
 module _ (l : Limits) (s : State) (out : RingLists) where
-  pub ring_stops : (why : Refusal) → Refused why ≡ stage_check l 3 s → turned_down_lem why s out ≡ ring_step l s out
+  pub ring_stops : (why : Refusal) → due why ≡ stage_check l 3 s → turned_down_lem why s out ≡ ring_step l s out
   unfolding ring_step
   ring_stops why e = step_stops l 3 s out _ why e
 

@@ -5,7 +5,6 @@ ghost use Rattle.extracting.specs.Extraction.{lists_of};
 ghost use Rattle.ring_checks.specs.Checks.{RingChecked};
 
 use crate::lengths::lists_long;
-use calls::Checked;
 use tables::{PlanarGraph, Refusal};
 
 // The first test that fails, or none.
@@ -22,17 +21,14 @@ pub fn check_rings(
     ring_face: &[u16],
     ring_side: &[u8],
     ring_area: &[f64],
-) -> Checked
+) -> Result<(), Refusal>
     ensures { RingChecked
         (state_in limits graph floats.now numbers.now stars.now marks.now ids.now)
         (lists_of half_edges.now ring_first.now ring_length.now ring_face.now ring_side.now ring_area.now) result }
 {
-    let checked = calls::check_stage(3, graph, floats, numbers, stars, marks, ids);
-    if let Checked::Refused(why) = checked {
-        return Checked::Refused(why);
-    }
+    calls::check_stage(3, graph, floats, numbers, stars, marks, ids)?;
     if lists_long(
-        2 * tables::wide(graph.edge_count),
+        2 * usize::from(graph.edge_count),
         half_edges,
         ring_first,
         ring_length,
@@ -40,7 +36,7 @@ pub fn check_rings(
         ring_side,
         ring_area,
     ) {
-        return Checked::Passed;
+        return Ok(());
     }
-    Checked::Refused(Refusal::ListTooShort)
+    Err(Refusal::ListTooShort)
 }

@@ -1,12 +1,16 @@
 -- Document 01's number and values for each case of the reply.
-use Rattle.geometry.specs.Reply.{Reply, refused, success}
+use Rattle.std.specs.Prelude.{Result}
+use Rattle.geometry.specs.Reply.{Reply}
 use Rattle.rules.specs.Ringing.{Ringing}
-use Rattle.tables.specs.Refusals.{refusal_number_lem}
+use Rattle.tables.specs.Refusals.{reply_by}
+use Rattle.tables.specs.declared.Refusal.{Refusal}
 use Rattle.cycles.specs.Census.{census_of}
-use Rattle.ring_entry.specs.declared.RingReply.{RingReply}
-use Rattle.ring_entry.specs.declared.RingReply.TheVariants.{Rings, Refused}
+use Rattle.ring_entry.specs.declared.Rings.{Rings}
 
--- the count, the census and the comparisons, or the number
-abbrev pub ring_reply : RingReply → Reply Ringing
-ring_reply (Rings n c m) = success (record { count = n; census = census_of c; comparisons = m })
-ring_reply (Refused why) = refused (refusal_number_lem why)
+-- the count, the census and the comparisons
+abbrev pub ringing_of : Rings → Ringing
+ringing_of rings = record { count = rings.count; census = census_of rings.census; comparisons = rings.comparisons }
+
+-- the same, or the number
+abbrev pub ring_reply : Result Rings Refusal → Reply Ringing
+ring_reply = reply_by ringing_of

@@ -10,26 +10,18 @@ ghost use Rattle.extracting.specs.Extraction.{lists_of};
 ghost use Rattle.ring_entry.specs.Replies.{ring_reply};
 ghost use Rattle.ring_checks.specs.Clause.{Extracts};
 
-use calls::Checked;
 use cycles::Census;
 pub use regions::extract_regions;
 use ring_checks::check_rings;
 pub use sides::sides_of_regions;
-use tables::{PlanarGraph, Refusal};
+use tables::{Answer, PlanarGraph};
 
-// What ring extraction answers: how many rings it listed, with V, E, cycles, C and the verdict, and
-// how many comparisons naming them took; or a refusal.
+// What was listed: how many rings, the census, and how many comparisons naming them took.
 #[derive(Clone, Copy)]
-pub enum RingReply {
-    Rings(u16, Census, u16),
-    Refused(Refusal),
-}
-
-// The counts and the stage after the call, and its answer.
-#[derive(Clone, Copy)]
-pub struct Ringed {
-    pub graph: PlanarGraph,
-    pub reply: RingReply,
+pub struct Rings {
+    pub count: u16,
+    pub census: Census,
+    pub comparisons: u16,
 }
 
 // Numbers 6, 7, 5 and 8; then the lists get the rings: their half-edges ring by ring, and for each
@@ -47,7 +39,7 @@ pub fn extract_without_holes(
     ring_face: &mut [u16],
     ring_side: &mut [u8],
     ring_area: &mut [f64],
-) -> Ringed
+) -> Answer<Rings>
     ensures { Extracts
         (state_in limits graph floats.now numbers.now stars.now marks.now ids.now)
         (lists_of half_edges.old ring_first.old ring_length.old ring_face.old ring_side.old ring_area.old)
@@ -69,10 +61,10 @@ pub fn extract_without_holes(
         ring_side,
         ring_area,
     );
-    if let Checked::Refused(why) = checked {
-        return Ringed {
+    if let Err(why) = checked {
+        return Answer {
             graph,
-            reply: RingReply::Refused(why),
+            reply: Err(why),
         };
     }
     let done = extract_regions(
@@ -89,9 +81,13 @@ pub fn extract_without_holes(
         ring_area,
     );
     let after = done.graph;
-    let census = done.census;
-    Ringed {
+    let rings = Rings {
+        count: done.count,
+        census: done.census,
+        comparisons: done.comparisons,
+    };
+    Answer {
         graph: after,
-        reply: RingReply::Rings(done.count, census, done.comparisons),
+        reply: Ok(rings),
     }
 }

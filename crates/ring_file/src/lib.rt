@@ -7,36 +7,16 @@ ghost use Rattle.std.specs.Prelude.{◌≡◌, min};
 ghost use Rattle.file_rules.specs.RingFile.{lent, write_rings_lem, read_rings_lem};
 ghost use Rattle.ring_file.specs.Answers.{written_of, read_of};
 
-use ring_reading::{RingFileRefusal, Survey, survey_file};
+use ring_reading::{RingFileRefusal, RingsCounted, survey_file};
 use ring_room::{all_writable, bytes_fit};
 use ring_taking::take_rings;
 use ring_writing::put_rings;
-
-// The bytes written, or why none were.
-#[derive(Clone, Copy)]
-pub enum RingsWritten {
-    Written(usize),
-    Refused(RingFileRefusal),
-}
-
-// The rings and the node numbers written into the lent lists, or why none were.
-#[derive(Clone, Copy)]
-pub enum RingsRead {
-    Read(usize, usize),
-    Refused(RingFileRefusal),
-}
-
-fn lesser(a: usize, b: usize) -> usize
-    ensures { result ≡ min a b }
-{
-    if a < b { a } else { b }
-}
 
 // The length of the shortest of four lists.
 fn shortest(first: usize, size: usize, face: usize, doubled: usize) -> usize
     ensures { result ≡ min (min first size) (min face doubled) }
 {
-    lesser(lesser(first, size), lesser(face, doubled))
+    first.min(size).min(face.min(doubled))
 }
 
 // Every ring as a record, one after another from the first byte of `out` on. Number 15 is for any ring
@@ -49,7 +29,7 @@ pub fn write_rings(
     ring_doubled: &[i64],
     nodes: &[u16],
     out: &mut [u8],
-) -> RingsWritten
+) -> Result<usize, RingFileRefusal>
     ensures { written_of result out.new ≡ write_rings_lem (lent ring_first.now ring_length.now ring_face.now ring_doubled.now nodes.now) out.old }
 {
     let count = shortest(
@@ -59,12 +39,12 @@ pub fn write_rings(
         ring_doubled.len(),
     );
     if !all_writable(ring_first, ring_length, count, nodes.len()) {
-        return RingsWritten::Refused(RingFileRefusal::Ring);
+        return Err(RingFileRefusal::Ring);
     }
     if !bytes_fit(ring_length, count, out.len()) {
-        return RingsWritten::Refused(RingFileRefusal::Room);
+        return Err(RingFileRefusal::Room);
     }
-    RingsWritten::Written(put_rings(
+    Ok(put_rings(
         ring_first,
         ring_length,
         ring_face,
@@ -84,34 +64,29 @@ pub fn read_rings(
     ring_face: &mut [u16],
     ring_doubled: &mut [i64],
     nodes: &mut [u16],
-) -> RingsRead
+) -> Result<RingsCounted, RingFileRefusal>
     ensures { read_of result (lent ring_first.new ring_length.new ring_face.new ring_doubled.new nodes.new) ≡ read_rings_lem bytes.now (lent ring_first.old ring_length.old ring_face.old ring_doubled.old nodes.old) }
 {
-    let found = survey_file(bytes);
-    match found {
-        Survey::Refused(why) => RingsRead::Refused(why),
-        Survey::Counted(rings, count) => {
-            let room = shortest(
-                ring_first.len(),
-                ring_length.len(),
-                ring_face.len(),
-                ring_doubled.len(),
-            );
-            if room < rings {
-                return RingsRead::Refused(RingFileRefusal::Room);
-            }
-            if nodes.len() < count {
-                return RingsRead::Refused(RingFileRefusal::Room);
-            }
-            take_rings(
-                bytes,
-                ring_first,
-                ring_length,
-                ring_face,
-                ring_doubled,
-                nodes,
-            );
-            RingsRead::Read(rings, count)
-        }
+    let counted = survey_file(bytes)?;
+    let room = shortest(
+        ring_first.len(),
+        ring_length.len(),
+        ring_face.len(),
+        ring_doubled.len(),
+    );
+    if room < counted.rings {
+        return Err(RingFileRefusal::Room);
     }
+    if nodes.len() < counted.nodes {
+        return Err(RingFileRefusal::Room);
+    }
+    take_rings(
+        bytes,
+        ring_first,
+        ring_length,
+        ring_face,
+        ring_doubled,
+        nodes,
+    );
+    Ok(counted)
 }

@@ -2,20 +2,23 @@
 use mathlib.Core.Path.{◌≡◌, refl, sym, ap, ap₂, ◌∙◌}
 use mathlib.Core.Bool.{true, false}
 use mathlib.Core.List.{List, [], ◌∷◌}
-use Prim.Native.Nat.{ℕ, zero, suc, ◌+◌, ◌-◌, ◌≤◌, ◌<◌, ◌%◌}
+use Prim.Native.Nat.{ℕ, zero, suc, min, ◌+◌, ◌-◌, ◌≤◌, ◌<◌, ◌%◌}
 use native.Mathlib.Omega.{arith}
 use native.Mathlib.Nat.{mod-lt, mod-eq_of_lt}
-use lib.Dec.{ltb}
 use lib.ListN.{length, get_or, take, drop, length-take, length-drop}
 use lib.Seq.{get_or-take, get_or-drop, ext_get_or}
-use borrow.Author.Tests.{eq-eqb, lt-ltb, le-ltb}
+use borrow.Author.Tests.{eq-eqb}
 use Rattle.lists.proofs.Counts.{by_test, by_eq, by_lt, true_is_false}
 use Rattle.rotation.specs.Rotation.{Key, key_before_lem, keys_before, keys_of, key_at}
-use Rattle.rotation.proofs.Keys.{before-x, behind-x, before-y, behind-y, key_irreflexive, key_level, keys_irreflexive, keys_transitive, keys_before_lem}
+use Rattle.rotation.proofs.Keys.{cmp-order, order_less, order_greater, order_equal, key_irreflexive, key_level, keys_irreflexive, keys_transitive, keys_before_lem}
 use Rattle.rotation.proofs.Around.{origin, mod-past, entry_mod, rotated-at, length-rotated}
-use Rattle.ring_keys.specs.declared.KeysOrder.TheVariants.{Less, Equal, Greater}
+use Rattle.std.specs.declared.cmp.Ordering.TheVariants.{Less, Equal, Greater}
 use Rattle.ring_keys.specs.declared.Turned.{Turned}
 use Rattle.ring_keys.specs.Listed.{part_of}
+use Rattle.std.specs.Ordering.{nat_cmp, is_ne, ordering_then}
+use Rattle.std.specs.Cmp.{nat_cmp_is}
+use Rattle.std.specs.declared.cmp.Ordering.{Ordering}
+use Rattle.rotation.specs.Steps.{key_order}
 use Rattle.ring_keys.specs.Keys.{turned_keys, Turns, keys_order}
 
 -- ---- keys out of two lists
@@ -37,22 +40,10 @@ key_in (x ∷ xs) (y ∷ ys) (suc i) h = key_in xs ys i (omega arith)
 abbrev pair : List ℕ → List ℕ → ℕ → Key
 pair xs ys i = record { x = get_or xs i 0; y = get_or ys i 0 }
 
--- a lower x there comes before
-pub key-lower : (xs ys : List ℕ) (p q : ℕ) → p < length (keys_of xs ys) → q < length (keys_of xs ys) → get_or xs p 0 < get_or xs q 0
-    → true ≡ key_before_lem (key_at (keys_of xs ys) p) (key_at (keys_of xs ys) q)
-key-lower xs ys p q hp hq l = sym ((λ i. key_before_lem (key_in xs ys p hp i) (key_in xs ys q hq i)) ∙ before-x (pair xs ys p) (pair xs ys q) l)
-
--- a higher x does not
-pub key-higher : (xs ys : List ℕ) (p q : ℕ) → p < length (keys_of xs ys) → q < length (keys_of xs ys) → get_or xs q 0 < get_or xs p 0
-    → false ≡ key_before_lem (key_at (keys_of xs ys) p) (key_at (keys_of xs ys) q)
-key-higher xs ys p q hp hq l = sym ((λ i. key_before_lem (key_in xs ys p hp i) (key_in xs ys q hq i)) ∙ behind-x (pair xs ys p) (pair xs ys q) l)
-
--- with equal x the lower y comes before
-pub key_by_y : (xs ys : List ℕ) (p q : ℕ) → p < length (keys_of xs ys) → q < length (keys_of xs ys) → get_or xs p 0 ≡ get_or xs q 0
-    → ltb (get_or ys p 0) (get_or ys q 0) ≡ key_before_lem (key_at (keys_of xs ys) p) (key_at (keys_of xs ys) q)
-key_by_y xs ys p q hp hq e = by_lt (get_or ys p 0) (get_or ys q 0)
-    (λ l. lt-ltb _ _ l ∙ sym (before-y (pair xs ys p) (pair xs ys q) e l)) (λ l. le-ltb _ _ l ∙ sym (behind-y (pair xs ys p) (pair xs ys q) e l))
-    ∙ sym (λ i. key_before_lem (key_in xs ys p hp i) (key_in xs ys q hq i))
+-- by x, then y, is how the keys stand
+pub keys-compare : (xs ys : List ℕ) (p q : ℕ) → p < length (keys_of xs ys) → q < length (keys_of xs ys)
+    → ordering_then (nat_cmp (get_or xs p 0) (get_or xs q 0)) (nat_cmp (get_or ys p 0) (get_or ys q 0)) ≡ key_order (key_at (keys_of xs ys) p) (key_at (keys_of xs ys) q)
+keys-compare xs ys p q hp hq = cmp-order (pair xs ys p) (pair xs ys q) ∙ sym (λ i. key_order (key_in xs ys p hp i) (key_in xs ys q hq i))
 
 -- none where the second list has none
 keys_none : (xs : List ℕ) → keys_of xs [] ≡ []
@@ -226,10 +217,22 @@ module _ (keys : List Key) (a b : Turned) (wa : Turns keys a) (wb : Turns keys b
         (keys_before_lem (turned_keys keys b) (turned_keys keys a) k (omega (arith, length-turned keys b wb)) (omega (arith, length-turned keys a wa))
         (λ t l. sym (same t l)) ((λ i. key_before_lem (there i) (here i)) ∙ e))
 
-    -- neither: one entry more is equal
-    pub entry_equal : key_before_lem (key_at keys p) (key_at keys q) ≡ false → key_before_lem (key_at keys q) (key_at keys p) ≡ false → Agree (k + 1)
-    entry_equal e f t l = by_eq t k
-        (λ z. ap (key_at (turned_keys keys a)) z ∙ here ∙ key_level (key_at keys p) (key_at keys q) e f ∙ sym there ∙ ap (key_at (turned_keys keys b)) (sym z))
+    -- they differ there
+    pub entry_differs : (o : Ordering) → o ≡ key_order (key_at keys p) (key_at keys q) → is_ne o ≡ true → o ≡ keys_order (turned_keys keys a) (turned_keys keys b)
+    entry_differs Less e n = entry_less (order_less (key_at keys p) (key_at keys q) (sym e))
+    entry_differs Equal e n = absurd (true_is_false (sym n))
+    entry_differs Greater e n = entry_greater (order_greater (key_at keys p) (key_at keys q) (sym e))
+
+    -- they are equal there
+    equal_there : (o : Ordering) → o ≡ key_order (key_at keys p) (key_at keys q) → is_ne o ≡ false → key_at keys p ≡ key_at keys q
+    equal_there Less e n = absurd (true_is_false n)
+    equal_there Equal e n = order_equal (key_at keys p) (key_at keys q) (sym e)
+    equal_there Greater e n = absurd (true_is_false n)
+
+    -- so that one entry more is equal
+    pub entry_equal : (o : Ordering) → o ≡ key_order (key_at keys p) (key_at keys q) → is_ne o ≡ false → Agree (k + 1)
+    entry_equal o e n t l = by_eq t k
+        (λ z. ap (key_at (turned_keys keys a)) z ∙ here ∙ equal_there o e n ∙ sym there ∙ ap (key_at (turned_keys keys b)) (sym z))
         (λ z. same t (omega arith))
 
   -- the first has no more entries
@@ -252,3 +255,11 @@ module _ (keys : List Key) (a b : Turned) (wa : Turns keys a) (wb : Turns keys b
       let la = length-turned keys a wa in
       let lb = length-turned keys b wb in
       keys_equal (turned_keys keys a) (turned_keys keys b) (ext_get_or origin (turned_keys keys a) (turned_keys keys b) (omega arith) (λ t l. same t (omega arith)))
+
+  -- the lengths decide where the entries that both have are equal
+  pub ends_compare : (m : ℕ) → m ≡ min a.size b.size → Agree m → nat_cmp a.size b.size ≡ keys_order (turned_keys keys a) (turned_keys keys b)
+  ends_compare m e same = by_lt a.size b.size
+      (λ h. sym (nat_cmp_is a.size b.size Less h) ∙ ends_less h (λ t l. same t (omega arith)))
+      (λ h. by_lt b.size a.size
+      (λ g. sym (nat_cmp_is a.size b.size Greater g) ∙ ends_greater g (λ t l. same t (omega arith)))
+      (λ g. let z : a.size ≡ b.size = omega arith in sym (nat_cmp_is a.size b.size Equal z) ∙ ends_equal z (λ t l. same t (omega arith))))

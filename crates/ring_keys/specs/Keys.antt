@@ -2,8 +2,8 @@
 use Rattle.std.specs.Prelude.{ℕ, ◌+◌, ◌<◌, ◌≤◌, Bool, true, false, List, length, get_or}
 use Rattle.rotation.specs.Rotation.{Key, keys_before, rotated, least_rotation_lem}
 use Rattle.rotation.specs.Steps.{comparisons}
-use Rattle.ring_keys.specs.declared.KeysOrder.{KeysOrder}
-use Rattle.ring_keys.specs.declared.KeysOrder.TheVariants.{Less, Equal, Greater}
+use Rattle.std.specs.declared.cmp.Ordering.{Ordering}
+use Rattle.std.specs.declared.cmp.Ordering.TheVariants.{Less, Equal, Greater}
 use Rattle.ring_keys.specs.declared.Search.{Search}
 use Rattle.ring_keys.specs.declared.Turned.{Turned}
 use Rattle.ring_keys.specs.Listed.{part_of}
@@ -32,11 +32,11 @@ pub record Turns (keys : List Key) (r : Turned) : Type 0 where
   pub turned : r.turn < r.size
 
 -- before, behind, or neither
-abbrev pub order_of : Bool → Bool → KeysOrder
+abbrev pub order_of : Bool → Bool → Ordering
 order_of true behind = Less
 order_of false true = Greater
 order_of false false = Equal
 
 -- how the keys ks stand to the keys ls
-unfoldable pub keys_order : List Key → List Key → KeysOrder
+unfoldable pub keys_order : List Key → List Key → Ordering
 keys_order ks ls = order_of (keys_before ks ls) (keys_before ls ks)

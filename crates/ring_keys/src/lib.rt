@@ -4,20 +4,13 @@
 
 ghost use Rattle.std.specs.Prelude.{◌≡◌, map, ℕ, ◌+◌, ◌<◌, ◌≤◌, ◌%◌, ◌^◌, length, get_or};
 ghost use Rattle.lists.specs.Lists.{upto, over, sum};
-ghost use Rattle.rotation.specs.Rotation.{key_before_lem, key_at, keys_of};
+ghost use Rattle.rotation.specs.Rotation.{key_at, keys_of};
+ghost use Rattle.rotation.specs.Steps.{key_order};
 ghost use Rattle.ring_keys.specs.Listed.{part_of};
 ghost use Rattle.ring_keys.specs.Keys.{search_of, turn_of, steps_of, turned_keys, Turns, keys_order};
 
-use rotation::{RotationStart, lesser};
-use tables::wide;
-
-// How one list of keys stands to another.
-#[derive(Clone, Copy)]
-pub enum KeysOrder {
-    Less,
-    Equal,
-    Greater,
-}
+use rotation::Rotation;
+use std::cmp::Ordering;
 
 // A ring's keys in the lists: where they begin, how many there are, and at which of them the least
 // rotation starts.
@@ -42,11 +35,11 @@ fn turn_of(xs: &[u64], ys: &[u64], first: usize, size: usize) -> Search
 {
     let end = first + size;
     match rotation::minimum_rotation_index(&xs[first..end], &ys[first..end]) {
-        RotationStart::At(at, comparisons) => {
-            let turn = at as u16;
+        Ok(Rotation { start, comparisons }) => {
+            let turn = start as u16;
             Search { turn, comparisons }
         }
-        RotationStart::LengthsDiffer => Search {
+        Err(_) => Search {
             turn: 0,
             comparisons: 0,
         },
@@ -68,14 +61,12 @@ pub fn write_turns(
     ensures made { result ≡ sum (map (steps_of (keys_of xs.now ys.now) firsts.now lengths.now) (upto count)) }
 {
     let mut made = 0;
-    let mut i = 0;
-    while i < count {
-        let first = wide(firsts[i]);
-        let size = wide(lengths[i]);
+    for i in 0..count {
+        let first = usize::from(firsts[i]);
+        let size = usize::from(lengths[i]);
         let found = turn_of(xs, ys, first, size);
         turns[i] = found.turn;
         made += found.comparisons;
-        i += 1;
     }
     made
 }
@@ -93,42 +84,24 @@ fn place(ring: Turned, k: usize) -> usize
 }
 
 // The keys at two places, by x, then y, as unsigned numbers.
-fn key_before(xs: &[u64], ys: &[u64], p: usize, q: usize) -> bool
+fn compare_at(xs: &[u64], ys: &[u64], p: usize, q: usize) -> Ordering
     requires { (p < length (keys_of xs.now ys.now)) × (q < length (keys_of xs.now ys.now)) }
-    ensures { result ≡ key_before_lem (key_at (keys_of xs.now ys.now) p) (key_at (keys_of xs.now ys.now) q) }
+    ensures { result ≡ key_order (key_at (keys_of xs.now ys.now) p) (key_at (keys_of xs.now ys.now) q) }
 {
-    if xs[p] < xs[q] {
-        return true;
-    }
-    if xs[q] < xs[p] {
-        return false;
-    }
-    ys[p] < ys[q]
+    xs[p].cmp(&xs[q]).then(ys[p].cmp(&ys[q]))
 }
 
 // By the first entry that differs; a prefix comes first.
-pub fn compare_keys(xs: &[u64], ys: &[u64], a: Turned, b: Turned) -> KeysOrder
+pub fn compare_keys(xs: &[u64], ys: &[u64], a: Turned, b: Turned) -> Ordering
     requires { Turns (keys_of xs.now ys.now) a × Turns (keys_of xs.now ys.now) b }
     ensures { result ≡ keys_order (turned_keys (keys_of xs.now ys.now) a) (turned_keys (keys_of xs.now ys.now) b) }
 {
-    let shared = lesser(a.size, b.size);
-    let mut k = 0;
-    while k < shared {
-        let p = place(a, k);
-        let q = place(b, k);
-        if key_before(xs, ys, p, q) {
-            return KeysOrder::Less;
+    let shared = a.size.min(b.size);
+    for k in 0..shared {
+        let order = compare_at(xs, ys, place(a, k), place(b, k));
+        if order.is_ne() {
+            return order;
         }
-        if key_before(xs, ys, q, p) {
-            return KeysOrder::Greater;
-        }
-        k += 1;
     }
-    if a.size < b.size {
-        return KeysOrder::Less;
-    }
-    if b.size < a.size {
-        return KeysOrder::Greater;
-    }
-    KeysOrder::Equal
+    a.size.cmp(&b.size)
 }

@@ -7,18 +7,14 @@ ghost use Rattle.rules.specs.Sane.{Live, Permutes};
 ghost use Rattle.ring_labels.specs.Labels.{entry_of, written, Walkable, Labelable, Labelled};
 
 use stars::is_active;
-use tables::{DirEdgeId, wide};
+use tables::DirEdgeId;
 
 // No label yet for the first n half-edges.
 fn clear_labels(labels: &mut [u16], n: usize)
     requires { n ≤ length labels.old }
     ensures { labels.new ≡ over (replicate n 0) labels.old }
 {
-    let mut i = 0;
-    while i < n {
-        labels[i] = 0;
-        i += 1;
-    }
+    labels[..n].fill(0);
 }
 
 // Writes the label at each half-edge of the cycle of start.
@@ -26,11 +22,11 @@ fn stamp_ring(next: &[u16], labels: &mut [u16], start: DirEdgeId, label: u16)
     requires { Walkable next.now labels.old start.0 }
     ensures { (n : ℕ) (active : ℕ → Bool) → Permutes (entry_of next.now) n active → Live n active start.0 → labels.new ≡ written (cycle (entry_of next.now) n start.0) label labels.old }
 {
-    let first = wide(start.0);
+    let first = usize::from(start.0);
     let mut cur = first;
     loop {
         labels[cur] = label;
-        cur = wide(next[cur]);
+        cur = usize::from(next[cur]);
         if cur == first {
             break;
         }
@@ -43,17 +39,15 @@ pub fn label_rings(edges: u16, next: &[u16], dir_edges_marked: &[bool], labels: 
     ensures { Labelled edges next.now dir_edges_marked.now labels.new result }
 {
     let halves = 2 * edges;
-    clear_labels(labels, wide(halves));
+    clear_labels(labels, usize::from(halves));
     let mut used: u16 = 0;
-    let mut h: u16 = 0;
-    while h < halves {
+    for h in 0..halves {
         if is_active(dir_edges_marked, DirEdgeId(h)) {
-            if labels[wide(h)] == 0 {
+            if labels[usize::from(h)] == 0 {
                 used += 1;
                 stamp_ring(next, labels, DirEdgeId(h), used);
             }
         }
-        h += 1;
     }
     used
 }

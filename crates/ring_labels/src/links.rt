@@ -6,7 +6,7 @@ ghost use Rattle.stars.specs.Groups.{unmarked, part, PartWithin, GroupsWithin};
 ghost use Rattle.ring_labels.specs.Links.{link_star_lem, Linked};
 
 use stars::is_active;
-use tables::{DirEdgeId, PlanarGraph, twin_of, wide};
+use tables::{DirEdgeId, PlanarGraph, twin_of};
 
 // The last active half-edge of a star, or 0 where there is none. Sought from the star's end, where it
 // mostly stands.
@@ -14,9 +14,7 @@ fn last_active(grouped: &[u16], from: usize, to: usize, dir_edges_marked: &[bool
     requires { PartWithin (length dir_edges_marked.now) from to grouped.now }
     ensures { result.0 ≡ last_of 0 (pick (unmarked dir_edges_marked.now) (part from to grouped.now)) }
 {
-    let mut i = to;
-    while from < i {
-        i -= 1;
+    for i in (from..to).rev() {
         let half = DirEdgeId(grouped[i]);
         if is_active(dir_edges_marked, half) {
             return half;
@@ -32,14 +30,12 @@ fn link_star(grouped: &[u16], from: usize, to: usize, dir_edges_marked: &[bool],
     ensures { next.new ≡ link_star_lem (unmarked dir_edges_marked.now) (part from to grouped.now) next.old }
 {
     let mut previous = last_active(grouped, from, to, dir_edges_marked);
-    let mut i = from;
-    while i < to {
+    for i in from..to {
         let half = DirEdgeId(grouped[i]);
-        next[wide(twin_of(half).0)] = previous.0;
+        next[usize::from(twin_of(half).0)] = previous.0;
         if is_active(dir_edges_marked, half) {
             previous = half;
         }
-        i += 1;
     }
 }
 
@@ -54,16 +50,14 @@ pub fn link_successors(
     requires { (GroupsWithin graph.node_count (2 * graph.edge_count) offsets.now grouped.now) × (2 * graph.edge_count ≤ length dir_edges_marked.now) × (2 * graph.edge_count ≤ length next.old) }
     ensures { Linked graph.node_count graph.edge_count dir_edges_marked.now offsets.now grouped.now next.new }
 {
-    let nodes = wide(graph.node_count);
-    let mut n = 0;
-    while n < nodes {
+    let nodes = usize::from(graph.node_count);
+    for n in 0..nodes {
         link_star(
             grouped,
-            wide(offsets[n]),
-            wide(offsets[n + 1]),
+            usize::from(offsets[n]),
+            usize::from(offsets[n + 1]),
             dir_edges_marked,
             next,
         );
-        n += 1;
     }
 }

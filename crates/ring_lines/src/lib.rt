@@ -13,13 +13,6 @@ ghost use Rattle.ring_lists.specs.Shown.{Shown};
 use ring_lists::doubled_area;
 use tables::FaceId;
 
-// A number of a table, as it is printed.
-pub fn printed(n: u16) -> u64
-    ensures { result ≡ n }
-{
-    n as u64
-}
-
 // The line of ring k.
 fn put_line(
     out: &mut [u8],
@@ -36,15 +29,15 @@ fn put_line(
     ensures { (rings : List Ring) → Shown rings half_edges.now ring_first.now ring_length.now ring_face.now ring_area.now → k < length rings
         → Put at (line_of dir_edges_src.now rings k) out.old out.new result }
 {
-    let i = tables::wide(k);
-    let first = tables::wide(ring_first[i]);
-    let size = tables::wide(ring_length[i]);
+    let i = usize::from(k);
+    let first = usize::from(ring_first[i]);
+    let size = usize::from(ring_length[i]);
     let face = ring_face[i];
     let doubled = doubled_area(ring_area[i]);
     listing_text::put_ring(
         out,
         at,
-        printed(k),
+        u64::from(k),
         FaceId(face),
         doubled,
         half_edges,
@@ -71,8 +64,7 @@ pub fn put_rings(
         → Put at (lines_of dir_edges_src.now rings count) out.old out.new result }
 {
     let mut place = at;
-    let mut k: u16 = 0;
-    while k < count {
+    for k in 0..count {
         place = put_line(
             out,
             place,
@@ -84,7 +76,6 @@ pub fn put_rings(
             ring_area,
             dir_edges_src,
         );
-        k += 1;
     }
     place
 }

@@ -4,7 +4,8 @@
 ghost use Rattle.std.specs.Prelude.{◌≡◌, ℤ};
 ghost use Rattle.ring_lists.specs.Shown.{HalfOf};
 
-// The numbers of an enclosed and an open ring's side in the lists.
+// The numbers of an enclosed and an open ring's side in the lists. They are numbers and no RingSide, since
+// C lends the lists too.
 pub const ENCLOSED: u8 = 1;
 
 pub const OPEN: u8 = 2;

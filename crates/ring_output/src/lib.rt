@@ -13,16 +13,14 @@ ghost use Rattle.ring_output.specs.Output.{Tells, Writes, Ends};
 use ring_records::RING_FILE_ROOM;
 use std::io::{Read, Write};
 use tables::{FLOATS, IDS, MARKS, NUMBERS, PlanarGraph, STARS};
-use taking::TakeReply;
+use taking::{TakeRefusal, take_number};
 use written_output::{complain, write_front};
 
-// What stands in the buffer for the input: a ring file of so many bytes, the line of a refusal, or
-// nothing, since a read failed.
+// What stands in the buffer for the input: a ring file of so many bytes, or the line of a refusal.
 #[derive(Clone, Copy)]
 enum Output {
     File(usize),
     Refusal(usize),
-    Failed,
 }
 
 // What was taken from a file, at the front of `out`: the line of the refusal that record `records` met,
@@ -30,7 +28,7 @@ enum Output {
 fn put_taken(
     graph: PlanarGraph,
     records: u64,
-    reply: TakeReply,
+    reply: Result<(), TakeRefusal>,
     floats: &[f64],
     numbers: &[u16],
     stars: &mut [u16],
@@ -42,12 +40,12 @@ fn put_taken(
     ensures { Tells (reply_of reply) records (state_in limits graph floats.now numbers.now stars.old marks.old ids.now) result out.old out.new }
 {
     match reply {
-        TakeReply::Done => {
+        Ok(()) => {
             let size = ring_steps::put_map(graph, floats, numbers, stars, marks, ids, out);
             Output::File(size)
         }
-        TakeReply::Refused(number) => {
-            let shown = number as u64;
+        Err(why) => {
+            let shown = u64::from(take_number(why));
             let size = listing_text::put_refusal(out, 0, shown, records);
             Output::Refusal(size)
         }
@@ -55,8 +53,8 @@ fn put_taken(
 }
 
 // Reads the input and writes what it comes to at the front of `out`. A read that failed is no end of the
-// input: then nothing is written.
-fn put_input<R: Read>(input: &mut R, out: &mut [u8]) -> Output
+// input: then nothing is written, and there is no output.
+fn put_input<R: Read>(input: &mut R, out: &mut [u8]) -> Option<Output>
     requires { file_room limits ≤ length out.old }
     ensures text { Writes result out.old out.new }
     ensures size { Ends result out.new }
@@ -79,9 +77,9 @@ fn put_input<R: Read>(input: &mut R, out: &mut [u8]) -> Output
     let reply = read.reply;
     let source = read.source;
     if buffered_input::is_failed(source) {
-        return Output::Failed;
+        return None;
     }
-    put_taken(
+    let output = put_taken(
         after,
         read.records,
         reply,
@@ -91,7 +89,8 @@ fn put_input<R: Read>(input: &mut R, out: &mut [u8]) -> Output
         &mut marks,
         &ids,
         out,
-    )
+    );
+    Some(output)
 }
 
 // Writes the ring file of the segments that can be read from `input` to `output`; the line of a refusal
@@ -99,8 +98,8 @@ fn put_input<R: Read>(input: &mut R, out: &mut [u8]) -> Output
 pub fn polygonize<R: Read, W: Write, E: Write>(input: &mut R, output: &mut W, errors: &mut E) {
     let mut buffer = [0u8; RING_FILE_ROOM];
     match put_input(input, &mut buffer) {
-        Output::File(size) => write_front(output, errors, &buffer, size),
-        Output::Refusal(size) => complain(errors, &buffer[..size]),
-        Output::Failed => complain(errors, b"read error\n"),
+        Some(Output::File(size)) => write_front(output, errors, &buffer, size),
+        Some(Output::Refusal(size)) => complain(errors, &buffer[..size]),
+        None => complain(errors, b"read error\n"),
     }
 }

@@ -1,5 +1,5 @@
 -- What each answer of the reader says.
-use Rattle.std.specs.Prelude.{ℕ, ◌+◌, ◌*◌, List, map, length}
+use Rattle.std.specs.Prelude.{ℕ, ◌+◌, ◌*◌, List, map, length, Result, Ok, Err, Option as Maybe, Some, None}
 use Rattle.std.proofs.Math.Option.{Option, none, some}
 use Rattle.std.specs.Int.{w64}
 use Rattle.std.proofs.Common.{to_z}
@@ -12,8 +12,7 @@ use Rattle.ring_reading.specs.declared.RingFileRefusal.{RingFileRefusal}
 use Rattle.ring_reading.specs.declared.RingFileRefusal.TheVariants.{Frame, Ring, Room}
 use Rattle.ring_reading.specs.declared.RingFound.{RingFound}
 use Rattle.ring_reading.specs.declared.RingFound.TheVariants as found
-use Rattle.ring_reading.specs.declared.Survey.{Survey}
-use Rattle.ring_reading.specs.declared.Survey.TheVariants as survey
+use Rattle.ring_reading.specs.declared.RingsCounted.{RingsCounted}
 
 -- document 02's number of a refusal
 abbrev pub number_of : RingFileRefusal → ℕ
@@ -25,17 +24,26 @@ number_of Room = 14
 abbrev pub ring_of : List ℕ → ℕ → RingRecord
 ring_of s n = record { face = field s 6 2; doubled = to_z w64 (field s 10 8); nodes = map (λ i. field s (18 + 2 * i) 2) (upto n) }
 
+-- a record at the start of these bytes
+abbrev pub record_of : List ℕ → RingFound → Found RingRecord
+record_of s (found.Ring n) = taken (ring_of s n) (18 + 2 * n)
+record_of s (found.Passed size) = passed size
+
+-- one of a ring's kind, or a refusal's number
+abbrev pub whole_of : List ℕ → Result RingFound RingFileRefusal → Found RingRecord
+whole_of s (Ok f) = record_of s f
+whole_of s (Err why) = wrong (number_of why)
+
 -- what was found at the start of these bytes
-abbrev pub found_of : List ℕ → RingFound → Found RingRecord
-found_of s (found.Ring n) = taken (ring_of s n) (18 + 2 * n)
-found_of s (found.Passed size) = passed size
-found_of s found.End = end
-found_of s (found.Refused why) = wrong (number_of why)
+abbrev pub found_of : List ℕ → Result (Maybe RingFound) RingFileRefusal → Found RingRecord
+found_of s (Ok (Some f)) = record_of s f
+found_of s (Ok None) = end
+found_of s (Err why) = wrong (number_of why)
 
 -- how many rings and nodes, or the refusal's number
-abbrev pub survey_of : Survey → Reply RingCounts
-survey_of (survey.Counted rings nodes) = success (record { rings = rings; nodes = nodes })
-survey_of (survey.Refused why) = refused (number_of why)
+abbrev pub survey_of : Result RingsCounted RingFileRefusal → Reply RingCounts
+survey_of (Ok n) = success (record { rings = n.rings; nodes = n.nodes })
+survey_of (Err why) = refused (number_of why)
 
 -- the same of a reading
 abbrev pub counted : Option ℕ → List RingRecord → Reply RingCounts

@@ -4,14 +4,10 @@
 ghost use Rattle.std.specs.Prelude.{◌≡◌, ◌+◌, drop};
 ghost use Rattle.file_rules.specs.Records.{taken, frame, read_file};
 ghost use Rattle.file_rules.specs.RingFile.{ring_next};
-ghost use Rattle.ring_reading.specs.Found.{number_of, found_of, survey_of, surveyed};
+ghost use Rattle.ring_reading.specs.Found.{number_of, whole_of, found_of, survey_of, surveyed};
+ghost use Rattle.ring_reading.specs.declared.RingFileRefusal.TheVariants.{Frame as FrameRefusal};
 
-use frames::{FileRefusal, Frame};
-
-// What a ring's record has besides its nodes, and for each node.
-pub const FIXED_BYTES: usize = frames::LENGTH_BYTES + frames::RING_HEAD as usize;
-
-pub const NODE_BYTES: usize = 2;
+use frames::{FileRefusal, Frame, NODE_BYTES, RING_BYTES};
 
 // Where in a ring's record its count of nodes stands.
 const COUNT_AT: usize = 8;
@@ -25,6 +21,14 @@ pub enum RingFileRefusal {
     Room,
 }
 
+impl From<FileRefusal> for RingFileRefusal {
+    ghost from_gives = { λ why given. given ≡ FrameRefusal why };
+
+    fn from(why: FileRefusal) -> RingFileRefusal {
+        RingFileRefusal::Frame(why)
+    }
+}
+
 // Document 02's number of a refusal.
 pub fn ring_file_number(why: RingFileRefusal) -> u32
     ensures { result ≡ number_of why }
@@ -36,76 +40,71 @@ pub fn ring_file_number(why: RingFileRefusal) -> u32
     }
 }
 
-// What a place of a file holds: a ring of so many nodes, a record of another kind by its bytes, or no
-// byte.
+// A record of a file: a ring of so many nodes, or one of another kind by its bytes.
 #[derive(Clone, Copy)]
 pub enum RingFound {
     Ring(usize),
     Passed(usize),
-    End,
-    Refused(RingFileRefusal),
 }
 
 // A record of a ring's kind. Its count must be some, and its length that of so many nodes.
-fn whole_ring(bytes: &[u8], at: usize, size: usize) -> RingFound
+fn whole_ring(bytes: &[u8], at: usize, size: usize) -> Result<RingFound, RingFileRefusal>
     requires { frame (drop at bytes.now) ≡ taken 2 size }
-    ensures { found_of (drop at bytes.now) result ≡ ring_next (drop at bytes.now) }
+    ensures { whole_of (drop at bytes.now) result ≡ ring_next (drop at bytes.now) }
 {
-    let count = frames::le16(bytes, at + COUNT_AT) as usize;
+    let count = usize::from(frames::le16(bytes, at + COUNT_AT));
     if count == 0 {
-        return RingFound::Refused(RingFileRefusal::Ring);
+        return Err(RingFileRefusal::Ring);
     }
-    if size != FIXED_BYTES + NODE_BYTES * count {
-        return RingFound::Refused(RingFileRefusal::Ring);
+    if size != RING_BYTES + NODE_BYTES * count {
+        return Err(RingFileRefusal::Ring);
     }
-    RingFound::Ring(count)
+    Ok(RingFound::Ring(count))
 }
 
-// What the reader of rings finds at `at`: segments and records of kinds 3 to 15 are passed over.
-pub fn read_ring(bytes: &[u8], at: usize) -> RingFound
+// What the reader of rings finds at `at`, where a byte is left: segments and records of kinds 3 to 15 are
+// passed over.
+pub fn read_ring(bytes: &[u8], at: usize) -> Result<Option<RingFound>, RingFileRefusal>
     ensures { found_of (drop at bytes.now) result ≡ ring_next (drop at bytes.now) }
 {
-    let frame = frames::read_frame(bytes, at);
+    let Some(frame) = frames::read_frame(bytes, at)? else {
+        return Ok(None);
+    };
     match frame {
-        Frame::Segment(size) => RingFound::Passed(size),
-        Frame::Ring(size) => whole_ring(bytes, at, size),
-        Frame::Skipped(_, size) => RingFound::Passed(size),
-        Frame::End => RingFound::End,
-        Frame::Refused(why) => RingFound::Refused(RingFileRefusal::Frame(why)),
+        Frame::Segment(size) => Ok(Some(RingFound::Passed(size))),
+        Frame::Ring(size) => {
+            let ring = whole_ring(bytes, at, size)?;
+            Ok(Some(ring))
+        }
+        Frame::Skipped(_, size) => Ok(Some(RingFound::Passed(size))),
     }
 }
 
-// How many rings and nodes a whole file has, or its first refusal.
+// How many rings and nodes a file has.
 #[derive(Clone, Copy)]
-pub enum Survey {
-    Counted(usize, usize),
-    Refused(RingFileRefusal),
+pub struct RingsCounted {
+    pub rings: usize,
+    pub nodes: usize,
 }
 
 // A file from its first byte to its end or the first bad record.
-pub fn survey_file(bytes: &[u8]) -> Survey
+pub fn survey_file(bytes: &[u8]) -> Result<RingsCounted, RingFileRefusal>
     ensures { survey_of result ≡ surveyed (read_file ring_next bytes.now) }
 {
     let mut at = 0;
     let mut rings = 0;
     let mut nodes = 0;
-    loop {
-        let found = read_ring(bytes, at);
+    while let Some(found) = read_ring(bytes, at)? {
         match found {
             RingFound::Ring(count) => {
                 rings += 1;
                 nodes += count;
-                at += FIXED_BYTES + NODE_BYTES * count;
+                at += RING_BYTES + NODE_BYTES * count;
             }
             RingFound::Passed(size) => {
                 at += size;
             }
-            RingFound::End => {
-                return Survey::Counted(rings, nodes);
-            }
-            RingFound::Refused(why) => {
-                return Survey::Refused(why);
-            }
         }
     }
+    Ok(RingsCounted { rings, nodes })
 }

@@ -11,7 +11,7 @@ ghost use Rattle.ring_records.specs.File.{file_of, file_room};
 ghost use Rattle.ring_records.specs.Given.{Halves, Listed};
 
 use ring_lists::doubled_area;
-use tables::{MAX_HALF_EDGES, wide};
+use tables::MAX_HALF_EDGES;
 
 // How many bytes the longest ring file of a map has at most: a record has 18 and 2 for each node, and
 // there are no more rings than half-edges, nor more nodes in all of them.
@@ -22,10 +22,8 @@ fn widen(from: &[u16], to: &mut [usize])
     requires { length from.now ≡ length to.old }
     ensures { to.new ≡ from.now }
 {
-    let mut i = 0;
-    while i < from.len() {
-        to[i] = wide(from[i]);
-        i += 1;
+    for (i, number) in from.iter().enumerate() {
+        to[i] = usize::from(*number);
     }
 }
 
@@ -33,11 +31,10 @@ fn widen(from: &[u16], to: &mut [usize])
 fn start_of(dir_edges_src: &[u16], half_edge: u16) -> u16
     ensures { result ≡ get_or dir_edges_src.now half_edge 0 }
 {
-    let at = wide(half_edge);
-    if at < dir_edges_src.len() {
-        return dir_edges_src[at];
-    }
-    0
+    dir_edges_src
+        .get(usize::from(half_edge))
+        .copied()
+        .unwrap_or(0)
 }
 
 // The nodes where half-edges start.
@@ -45,10 +42,8 @@ fn list_nodes(half_edges: &[u16], dir_edges_src: &[u16], nodes: &mut [u16])
     requires { length half_edges.now ≡ length nodes.old }
     ensures { nodes.new ≡ starting_nodes dir_edges_src.now half_edges.now }
 {
-    let mut i = 0;
-    while i < half_edges.len() {
-        nodes[i] = start_of(dir_edges_src, half_edges[i]);
-        i += 1;
+    for (i, half_edge) in half_edges.iter().enumerate() {
+        nodes[i] = start_of(dir_edges_src, *half_edge);
     }
 }
 
@@ -57,10 +52,8 @@ fn double_areas(ring_area: &[f64], count: usize, to: &mut [i64])
     requires { (count ≤ length to.old) × ((zs : List ℤ) × Halves ring_area.now zs × (count ≡ length zs)) }
     ensures { (zs : List ℤ) → Halves ring_area.now zs → count ≡ length zs → to.new ≡ over zs to.old }
 {
-    let mut i = 0;
-    while i < count {
+    for i in 0..count {
         to[i] = doubled_area(ring_area[i]);
-        i += 1;
     }
 }
 
@@ -83,7 +76,7 @@ pub fn put_records(
     let mut size = [0usize; MAX_HALF_EDGES];
     let mut doubled = [0i64; MAX_HALF_EDGES];
     let mut nodes = [0u16; MAX_HALF_EDGES];
-    let rings = wide(count);
+    let rings = usize::from(count);
     widen(ring_first, &mut first);
     widen(ring_length, &mut size);
     double_areas(ring_area, rings, &mut doubled);

@@ -5,9 +5,9 @@ ghost use Rattle.hole_entry.specs.Replies.{rings_reply};
 ghost use Rattle.replies.specs.Lent.{Answered};
 ghost use Rattle.ring_replies.specs.Values.{ring_values};
 
-use hole_entry::{Ringed, RingsReply};
+use hole_entry::RingsAndHoles;
 use replies::{CENSUS_LENGTH, STATE_LENGTH, flag, write_state};
-use tables::refusal_number;
+use tables::{Answer, refusal_number};
 
 // Behind the values of cutting the comparisons of naming, and how many half-edges and holes were written.
 pub const RINGS_LENGTH: usize = CENSUS_LENGTH + 3;
@@ -16,24 +16,28 @@ pub const RINGS_LENGTH: usize = CENSUS_LENGTH + 3;
 pub fn answer_rings(
     state: &mut [u16; STATE_LENGTH],
     reply: &mut [u16; RINGS_LENGTH],
-    done: Ringed,
+    done: Answer<RingsAndHoles>,
 ) -> u32
     ensures { Answered ring_values (rings_reply done.reply) done.graph state.old reply.old result state.new reply.new }
 {
     let answer = done.reply;
     let graph = done.graph;
     match answer {
-        RingsReply::Refused(why) => refusal_number(why),
-        RingsReply::Rings(count, census, comparisons, half_edges, holes) => {
+        Err(why) => refusal_number(why),
+        Ok(listed) => {
+            let rings = listed.rings;
+            let census = rings.census;
+            let half_edges = listed.half_edges;
+            let holes = listed.holes;
             let verdict = flag(census.verdict);
             *reply = [
-                count,
+                rings.count,
                 census.vertices,
                 census.edges,
                 census.cycles,
                 census.pieces,
                 verdict,
-                comparisons,
+                rings.comparisons,
                 half_edges,
                 holes,
             ];

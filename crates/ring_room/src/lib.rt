@@ -5,13 +5,10 @@ ghost use Rattle.std.specs.Prelude.{◌≡◌, ◌&&◌, ◌+◌, ◌≤◌, ltb
 ghost use Rattle.lists.specs.Lists.{upto, all};
 ghost use Rattle.ring_writing.specs.Rings.{writable_at, sizes_at};
 
+use frames::{NODE_BYTES, RING_BYTES};
+
 // The most nodes that a ring in a file may have.
 const MAX_NODES: usize = 65_535;
-
-// What a ring's record has besides its nodes, and for each node.
-const FIXED_BYTES: usize = frames::LENGTH_BYTES + frames::RING_HEAD as usize;
-
-const NODE_BYTES: usize = 2;
 
 // A ring that is not empty, not too long and within a list of so many nodes. Its first place and its
 // length may have a sum that does not fit, so the length is taken from the list's.
@@ -35,12 +32,10 @@ pub fn all_writable(ring_first: &[usize], ring_length: &[usize], count: usize, n
     requires { (count ≤ length ring_first.now) × (count ≤ length ring_length.now) }
     ensures { result ≡ all (writable_at ring_first.now ring_length.now nodes) (upto count) }
 {
-    let mut i = 0;
-    while i < count {
+    for i in 0..count {
         if !is_writable(ring_first[i], ring_length[i], nodes) {
             return false;
         }
-        i += 1;
     }
     true
 }
@@ -52,17 +47,14 @@ pub fn bytes_fit(ring_length: &[usize], count: usize, room: usize) -> bool
     ensures { result ≡ leb (sizes_at ring_length.now (upto count)) room }
 {
     let mut left = room;
-    let mut i = 0;
-    while i < count {
-        let size = ring_length[i];
-        if left < FIXED_BYTES {
+    for size in &ring_length[..count] {
+        if left < RING_BYTES {
             return false;
         }
-        if (left - FIXED_BYTES) / NODE_BYTES < size {
+        if (left - RING_BYTES) / NODE_BYTES < *size {
             return false;
         }
-        left = left - FIXED_BYTES - NODE_BYTES * size;
-        i += 1;
+        left = left - RING_BYTES - NODE_BYTES * *size;
     }
     true
 }

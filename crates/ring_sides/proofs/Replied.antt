@@ -23,7 +23,7 @@ use Rattle.ring_tally.specs.Sides.{side_of, side_in, number_in, shown_in}
 use Rattle.rings.proofs.Meaning.{sides-exact, sides-replied}
 use Rattle.hole_checks.specs.Clause.{Extracts}
 use Rattle.ring_sides.specs.Sides.{side_at_lem, side_from}
-use Rattle.ring_sides.specs.declared.SideReply.TheVariants.{Side}
+use Rattle.std.specs.Prelude.{Ok}
 use Rattle.ring_sides.proofs.Reading.{side-back, within-lists}
 
 -- ---- lists written from the rings
@@ -98,7 +98,7 @@ module _ (s : State) (out : Lent) (r : RingAnswer) (after : State) (written : Le
     ring = get_or (minimal_rings (arrangement s)) i []
 
     -- its side, read back from the lists, is the side by the sign of its area
-    pub side_read : side_at_lem written.rings.side written.rings.area i ≡ Side (side_in s.source s.node_x s.node_y ring)
+    pub side_read : side_at_lem written.rings.side written.rings.area i ≡ Ok (side_in s.source s.node_x s.node_y ring)
     side_read =
         let low : i < length (minimal_rings (arrangement s)) = omega (arith, counted) in
         let N = number_in s.source s.node_x s.node_y in

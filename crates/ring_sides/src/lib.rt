@@ -13,27 +13,21 @@ pub enum NoSide {
     OtherNumber,
 }
 
-#[derive(Clone, Copy)]
-pub enum SideReply {
-    Side(RingSide),
-    Refused(NoSide),
-}
-
 // The side of ring i by its number and its area: 0 flat, 1 enclosed, 2 open.
-pub fn side_at(ring_side: &[u8], ring_area: &[f64], i: usize) -> SideReply
+pub fn side_at(ring_side: &[u8], ring_area: &[f64], i: usize) -> Result<RingSide, NoSide>
     ensures { result ≡ side_at_lem ring_side.now ring_area.now i }
 {
     if ring_side.len() <= i {
-        return SideReply::Refused(NoSide::PastLists);
+        return Err(NoSide::PastLists);
     }
     if ring_area.len() <= i {
-        return SideReply::Refused(NoSide::PastLists);
+        return Err(NoSide::PastLists);
     }
     let area = ring_area[i];
     match ring_side[i] {
-        0 => SideReply::Side(RingSide::Flat),
-        1 => SideReply::Side(RingSide::Enclosed(area)),
-        2 => SideReply::Side(RingSide::Open(area)),
-        _ => SideReply::Refused(NoSide::OtherNumber),
+        0 => Ok(RingSide::Flat),
+        1 => Ok(RingSide::Enclosed(area)),
+        2 => Ok(RingSide::Open(area)),
+        _ => Err(NoSide::OtherNumber),
     }
 }

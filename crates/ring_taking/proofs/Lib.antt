@@ -1,4 +1,4 @@
--- Signed numbers by their bits, and rings in lent lists.
-pub mod Bits
+-- Rings in lent lists, and where reading them ends.
 pub mod Lists
 pub mod Filling
+pub mod Ends

@@ -8,8 +8,9 @@ ghost use Rattle.file_rules.specs.Records.{read_file};
 ghost use Rattle.file_rules.specs.RingFile.{ring_room_lem, rings_over, all_nodes, closed_up, ring_next, lent};
 ghost use Rattle.ring_taking.specs.Taken.{entry_of, ring_set};
 
-use crate::numbers::{copy_nodes, signed_of};
-use ring_reading::{FIXED_BYTES, NODE_BYTES, RingFound, read_ring};
+use crate::numbers::copy_nodes;
+use frames::{NODE_BYTES, RING_BYTES};
+use ring_reading::{RingFound, read_ring};
 
 // Where in a ring's record its face number and its doubled area stand.
 const FACE_AT: usize = 6;
@@ -35,10 +36,11 @@ fn enter_ring(
     ring_first[ring] = place;
     ring_length[ring] = count;
     ring_face[ring] = frames::le16(bytes, at + FACE_AT);
-    ring_doubled[ring] = signed_of(frames::le64(bytes, at + DOUBLED_AT));
+    ring_doubled[ring] = frames::le64(bytes, at + DOUBLED_AT).cast_signed();
 }
 
-// All rings of a file, with their nodes closed up.
+// All rings of a file, with their nodes closed up. A record that is refused ends the reading, as the
+// end of the file does.
 pub fn take_rings(
     bytes: &[u8],
     ring_first: &mut [usize],
@@ -54,8 +56,7 @@ pub fn take_rings(
     let mut at = 0;
     let mut ring = 0;
     let mut place = 0;
-    loop {
-        let found = read_ring(bytes, at);
+    while let Some(found) = read_ring(bytes, at).unwrap_or(None) {
         match found {
             RingFound::Ring(count) => {
                 enter_ring(
@@ -69,18 +70,12 @@ pub fn take_rings(
                     ring_face,
                     ring_doubled,
                 );
-                place = copy_nodes(bytes, at + FIXED_BYTES, count, nodes, place);
+                place = copy_nodes(bytes, at + RING_BYTES, count, nodes, place);
                 ring += 1;
-                at += FIXED_BYTES + NODE_BYTES * count;
+                at += RING_BYTES + NODE_BYTES * count;
             }
             RingFound::Passed(size) => {
                 at += size;
-            }
-            RingFound::End => {
-                return;
-            }
-            RingFound::Refused(_) => {
-                return;
             }
         }
     }

@@ -1,7 +1,6 @@
 // Rings into the bytes of a file, each number with its lowest byte first.
 #![tactic(auto)]
 
-mod numbers;
 mod records;
 
 pub use records::put_rings;

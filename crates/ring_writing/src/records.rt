@@ -6,7 +6,7 @@ ghost use Rattle.file_rules.specs.Records.{little_bytes};
 ghost use Rattle.file_rules.specs.RingFile.{ring_room_lem, cut_out, ring_bytes, lent};
 ghost use Rattle.ring_writing.specs.Rings.{nodes_in, head_bytes, ring_of, bytes_at, writable_at, sizes_at};
 
-use crate::numbers::{bits_of, put_u16, put_u32, put_u64};
+use number_text::put_text;
 
 // So many node numbers from `first` on.
 fn put_nodes(out: &mut [u8], at: usize, nodes: &[u16], first: usize, count: usize) -> usize
@@ -14,10 +14,8 @@ fn put_nodes(out: &mut [u8], at: usize, nodes: &[u16], first: usize, count: usiz
     ensures { Put at (flatten (map (little_bytes 2) (nodes_in nodes.now first count))) out.old out.new result }
 {
     let mut place = at;
-    let mut i = 0;
-    while i < count {
-        place = put_u16(out, place, nodes[first + i]);
-        i += 1;
+    for i in 0..count {
+        place = put_text(out, place, &nodes[first + i].to_le_bytes());
     }
     place
 }
@@ -27,11 +25,12 @@ fn put_head(out: &mut [u8], at: usize, face: u16, doubled: i64, count: u16) -> u
     requires { at + 18 ≤ length out.old }
     ensures { Put at (head_bytes face doubled count) out.old out.new result }
 {
-    let mut place = put_u32(out, at, frames::RING_HEAD + 2 * (count as u32));
-    place = put_u16(out, place, frames::RING_KIND);
-    place = put_u16(out, place, face);
-    place = put_u16(out, place, count);
-    put_u64(out, place, bits_of(doubled))
+    let length = frames::RING_HEAD + 2 * u32::from(count);
+    let mut place = put_text(out, at, &length.to_le_bytes());
+    place = put_text(out, place, &frames::RING_KIND.to_le_bytes());
+    place = put_text(out, place, &face.to_le_bytes());
+    place = put_text(out, place, &count.to_le_bytes());
+    put_text(out, place, &doubled.to_le_bytes())
 }
 
 // A ring's record.
@@ -67,8 +66,7 @@ pub fn put_rings(
     ensures { Put 0 (bytes_at (lent ring_first.now ring_length.now ring_face.now ring_doubled.now nodes.now) (upto count)) out.old out.new result }
 {
     let mut place = 0;
-    let mut i = 0;
-    while i < count {
+    for i in 0..count {
         place = put_ring(
             out,
             place,
@@ -78,7 +76,6 @@ pub fn put_rings(
             ring_first[i],
             ring_length[i],
         );
-        i += 1;
     }
     place
 }

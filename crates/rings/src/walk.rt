@@ -11,7 +11,7 @@ ghost use Rattle.rings.specs.Listing.{table_rings, rows_of, row_put, RowsRoom, W
 
 use ring_tally::{Tally, side_area, side_number, side_of};
 use stars::is_active;
-use tables::{DirEdgeId, MAX_HALF_EDGES, wide};
+use tables::{DirEdgeId, MAX_HALF_EDGES};
 
 // Lists the ring of `start` and its keys from place `at` on and marks it as seen; returns its tally.
 fn walk_ring(
@@ -32,11 +32,11 @@ fn walk_ring(
     let mut tally = Tally { count: 0, sum: 0.0 };
     let mut cur = start.0;
     loop {
-        seen[wide(cur)] = true;
-        let place = wide(at + tally.count);
+        seen[usize::from(cur)] = true;
+        let place = usize::from(at + tally.count);
         half_edges[place] = cur;
         tally = tally.take(DirEdgeId(cur), dir_edges_src, nodes_x, nodes_y, place, keys);
-        cur = next[wide(cur)];
+        cur = next[usize::from(cur)];
         if cur == start.0 {
             break;
         }
@@ -57,7 +57,7 @@ fn write_row(
     requires { RowsRoom (i + 1) (rows_of ring_first.old ring_length.old ring_side.old ring_area.old) }
     ensures { rows_of ring_first.new ring_length.new ring_side.new ring_area.new ≡ row_put i first tally (rows_of ring_first.old ring_length.old ring_side.old ring_area.old) }
 {
-    let ring = wide(i);
+    let ring = usize::from(i);
     let side = side_of(tally.sum * 0.5);
     ring_first[ring] = first;
     ring_length[ring] = tally.count;
@@ -90,9 +90,8 @@ fn walk_unseen(
 {
     let mut count: u16 = 0;
     let mut at: u16 = 0;
-    let mut k: u16 = 0;
-    while k < 2 * edges {
-        let fresh = is_active(dir_edges_marked, DirEdgeId(k)) & !seen[wide(k)];
+    for k in 0..2 * edges {
+        let fresh = is_active(dir_edges_marked, DirEdgeId(k)) & !seen[usize::from(k)];
         if fresh {
             let start = DirEdgeId(k);
             let tally = walk_ring(
@@ -118,7 +117,6 @@ fn walk_unseen(
             count += 1;
             at += tally.count;
         }
-        k += 1;
     }
     count
 }

@@ -1,15 +1,15 @@
 // Runs the least rotation on rings worked by hand and prints where it starts and the comparisons made.
 #![tactic(auto)]
 
-use rotation::RotationStart;
+use rotation::{LengthsDiffer, Rotation};
 use std::io;
 
 fn start(rt: &impl Print, name: &str, xs: &[u64], ys: &[u64]) -> io::Result<()> {
     match rotation::minimum_rotation_index(xs, ys) {
-        RotationStart::At(i, compared) => {
-            println!(rt; "{name} starts at {i}, comparisons {compared}")
+        Ok(Rotation { start, comparisons }) => {
+            println!(rt; "{name} starts at {start}, comparisons {comparisons}")
         }
-        RotationStart::LengthsDiffer => println!(rt; "{name} has keys of unequal lengths"),
+        Err(LengthsDiffer) => println!(rt; "{name} has keys of unequal lengths"),
     }
 }
 

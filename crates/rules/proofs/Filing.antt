@@ -100,7 +100,9 @@ leaves-one : (l : Limits) (g : Line3D) (gs : List Line3D) (s t : State) (k : Ske
     → turn_world l (adding g) (record { state = s; sketch = k }) ≡ record { state = t; sketch = feed (is_refused r) (adding g) k }
     → (is_refused r ≡ true → t ≡ s) → Leaves l t (feed false (adding g) k) gs rest → Leaves l s k (g ∷ gs) (or_filed r g s rest)
 unfolding history
-leaves-one l g gs s t k (refused n) rest e same more = e ∙ (λ i. record { state = same refl i; sketch = feed true (adding g) k })
+leaves-one l g gs s t k (refused n) rest e same more =
+    let none : (or_filed (refused n) g s rest).accepted ≡ 0 = refl in
+    e ∙ (λ i. record { state = same refl i; sketch = feed true (adding g) k })
 leaves-one l g gs s t k (success a) rest e same more = ap (history l rest.calls) e ∙ more
 
 -- THE CALLS OF A FILE, one by one, leave its state, and the sketch fed its segments in order

@@ -11,14 +11,14 @@ ghost use Rattle.rules.specs.State.{key_in_lem};
 ghost use Rattle.searching.specs.Searches.{find_node_in, find_half_in};
 
 use geometry::Coord3D;
-use tables::{DirEdgeId, NodeId, PlanarGraph, wide};
+use tables::{DirEdgeId, NodeId, PlanarGraph};
 
 // Whether a node has the bits of a point's x and y.
 pub fn has_key(nodes_x: &[f64], nodes_y: &[f64], node: NodeId, bits_x: u64, bits_y: u64) -> bool
     requires { (node.0 < length nodes_x.now) × (node.0 < length nodes_y.now) }
     ensures { result ≡ key_same (key_in_lem nodes_x.now nodes_y.now node.0) (record { x = bits_x; y = bits_y }) }
 {
-    let n = wide(node.0);
+    let n = usize::from(node.0);
     geometry::canonical_coordinate_bits(nodes_x[n]) == bits_x
         && geometry::canonical_coordinate_bits(nodes_y[n]) == bits_y
 }
@@ -32,12 +32,10 @@ pub fn find_node(graph: PlanarGraph, nodes_x: &[f64], nodes_y: &[f64], point: Co
     let bits_x = geometry::canonical_coordinate_bits(point.x);
     let bits_y = geometry::canonical_coordinate_bits(point.y);
     let count = graph.node_count;
-    let mut n: u16 = 0;
-    while n < count {
+    for n in 0..count {
         if has_key(nodes_x, nodes_y, NodeId(n), bits_x, bits_y) {
             return NodeId(n);
         }
-        n += 1;
     }
     NodeId(count)
 }
@@ -53,7 +51,7 @@ pub fn goes(
     requires { (half.0 < length dir_edges_src.now) × (half.0 < length dir_edges_dst.now) }
     ensures { result ≡ (eqb (get_or dir_edges_src.now half.0 0) u.0 && eqb (get_or dir_edges_dst.now half.0 0) v.0) }
 {
-    let h = wide(half.0);
+    let h = usize::from(half.0);
     dir_edges_src[h] == u.0 && dir_edges_dst[h] == v.0
 }
 
@@ -72,13 +70,11 @@ pub fn find_half(
     ensures { result.0 ≡ find_half_in graph.edge_count dir_edges_src.now dir_edges_dst.now nodes_outgoing.now u.0 v.0 }
 {
     let count = 2 * graph.edge_count;
-    let mut i: u16 = 0;
-    while i < count {
-        let h = nodes_outgoing[wide(i)];
+    for i in 0..count {
+        let h = nodes_outgoing[usize::from(i)];
         if goes(dir_edges_src, dir_edges_dst, DirEdgeId(h), u, v) {
             return DirEdgeId(h);
         }
-        i += 1;
     }
     DirEdgeId(count)
 }

@@ -11,14 +11,11 @@ ghost use Rattle.segment_file.specs.Record.{line_at, read_of};
 use frames::{FileRefusal, Frame, le32, le64};
 use geometry::{Coord3D, Line3D};
 
-// What a place of the file holds. A record comes with how many bytes it takes: a segment, or one that is
-// passed over.
+// A record of the file, with how many bytes it takes: a segment, or one that is passed over.
 #[derive(Clone, Copy)]
 pub enum Record {
     Segment(Line3D, usize),
     Passed(usize),
-    End,
-    Refused(FileRefusal),
 }
 
 // The float with these bits. The pattern of a NaN becomes some NaN: its exponent is all ones and its
@@ -57,16 +54,17 @@ fn segment_at(bytes: &[u8], at: usize) -> Line3D
     }
 }
 
-// What stands at `at`: the end, where no byte is left; a record's refusal, the first that holds of
+// What stands at `at`: nothing, where no byte is left; a record's refusal, the first that holds of
 // 9, 10, 11; its segment; or a record of another kind, passed over.
-pub fn read_record(bytes: &[u8], at: usize) -> Record
+pub fn read_record(bytes: &[u8], at: usize) -> Result<Option<Record>, FileRefusal>
     ensures { read_of result ≡ segment_next (drop at bytes.now) }
 {
-    match frames::read_frame(bytes, at) {
-        Frame::Segment(size) => Record::Segment(segment_at(bytes, at), size),
-        Frame::Ring(size) => Record::Passed(size),
-        Frame::Skipped(_, size) => Record::Passed(size),
-        Frame::End => Record::End,
-        Frame::Refused(why) => Record::Refused(why),
+    let Some(frame) = frames::read_frame(bytes, at)? else {
+        return Ok(None);
+    };
+    match frame {
+        Frame::Segment(size) => Ok(Some(Record::Segment(segment_at(bytes, at), size))),
+        Frame::Ring(size) => Ok(Some(Record::Passed(size))),
+        Frame::Skipped(_, size) => Ok(Some(Record::Passed(size))),
     }
 }

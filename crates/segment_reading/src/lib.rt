@@ -14,7 +14,7 @@ use long_records::{BUFFER_BYTES, capped, goes_on};
 use reading_turns::read_turn;
 use std::io::Read;
 use tables::PlanarGraph;
-use taking::TakeReply;
+use taking::TakeRefusal;
 
 // What all turns together left: the counts and the stage, how many bytes came and how many records were
 // taken, the answer to them, and how the input ended.
@@ -23,7 +23,7 @@ pub struct ReadOut {
     pub graph: PlanarGraph,
     pub bytes: u64,
     pub records: u64,
-    pub reply: TakeReply,
+    pub reply: Result<(), TakeRefusal>,
     pub source: Source,
 }
 

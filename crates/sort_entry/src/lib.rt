@@ -8,9 +8,8 @@ ghost use Rattle.sort_entry.specs.Clause.{Sorts};
 
 mod regions;
 
-use calls::{Checked, StepReply, Stepped};
 use regions::sort_region;
-use tables::PlanarGraph;
+use tables::{Answer, PlanarGraph};
 
 // Numbers 6, 7 and 5; then every star is put in angular order, and equal angles keep theirs.
 pub fn sort_edges(
@@ -20,22 +19,22 @@ pub fn sort_edges(
     stars: &mut [u16],
     marks: &[bool],
     ids: &[u32],
-) -> Stepped
+) -> Answer<()>
     ensures { Sorts
         (state_in limits graph floats.now numbers.now stars.old marks.now ids.now)
         (step_reply result.reply)
         (state_in limits result.graph floats.now numbers.now stars.new marks.now ids.now) }
 {
     let checked = calls::check_stage(0, graph, floats, numbers, stars, marks, ids);
-    if let Checked::Refused(why) = checked {
-        return Stepped {
+    if let Err(why) = checked {
+        return Answer {
             graph,
-            reply: StepReply::Refused(why),
+            reply: Err(why),
         };
     }
     let done = sort_region(graph, floats, numbers, stars);
-    Stepped {
+    Answer {
         graph: done,
-        reply: StepReply::Done,
+        reply: Ok(()),
     }
 }

@@ -8,7 +8,7 @@ ghost use Rattle.rules.specs.State.{sound_graph, sound};
 ghost use Rattle.tables.specs.Regions.{state_in, line_ids_in, tracings_in, least_floats, least_numbers, least_stars, least_marks, least_ids, SliceRoom};
 
 use tables::{
-    DEGREES, HALF_MARKS, LINKS, LIST_PLACES, NODES_Y, NODES_Z, PAIR_IDS, PlanarGraph, TARGETS, wide,
+    DEGREES, HALF_MARKS, LINKS, LIST_PLACES, NODES_Y, NODES_Z, PAIR_IDS, PlanarGraph, TARGETS,
 };
 
 // Document 01's list. Each table that it reads is lent as a part of its slice; ids are not read.
@@ -41,7 +41,7 @@ fn are_lists_sound(edges: u16, numbers: &[u16], ids: &[u32]) -> bool
     ensures { result ≡ sound_lists limits.pairs (tracings_in limits numbers.now ids.now) (line_ids_in limits ids.now) edges }
 {
     list_tests::lists_sound(
-        wide(edges),
+        usize::from(edges),
         &numbers[LIST_PLACES..LINKS],
         &ids[0..PAIR_IDS],
         &ids[PAIR_IDS..],

@@ -16,7 +16,7 @@ ghost use Rattle.splitting.specs.Splits.{entry_of, noted, relinked, StarWithin, 
 
 use super::reads::index_at;
 use stars::is_active;
-use tables::{DirEdgeId, MAX_HALF_EDGES, twin_of, wide};
+use tables::{DirEdgeId, MAX_HALF_EDGES, twin_of};
 
 // Labels are counted from 1, and there are no more than half-edges: one place for each, and one for
 // half-edges without a label.
@@ -34,9 +34,7 @@ fn note_star(
     requires { StarWithin from to grouped.now dir_edges_marked.now labels.now upcoming.old }
     ensures { upcoming.new ≡ noted (entry_of labels.now) (pick (unmarked dir_edges_marked.now) (part from to grouped.now)) upcoming.old }
 {
-    let mut i = to;
-    while from < i {
-        i -= 1;
+    for i in (from..to).rev() {
         let h = grouped[i];
         if is_active(dir_edges_marked, DirEdgeId(h)) {
             upcoming[index_at(labels, DirEdgeId(h))] = h;
@@ -59,14 +57,12 @@ fn relink_star(
     ensures upcoming_after { upcoming.new ≡ noted (entry_of labels.now) (pick (unmarked dir_edges_marked.now) (part from to grouped.now)) upcoming.old }
     ensures next_after { next.new ≡ relinked (entry_of labels.now) upcoming.old (pick (unmarked dir_edges_marked.now) (part from to grouped.now)) next.old }
 {
-    let mut i = to;
-    while from < i {
-        i -= 1;
+    for i in (from..to).rev() {
         let h = grouped[i];
         if is_active(dir_edges_marked, DirEdgeId(h)) {
             let incoming = twin_of(DirEdgeId(h));
             upcoming[index_at(labels, DirEdgeId(h))] = h;
-            next[wide(incoming.0)] = upcoming[index_at(labels, incoming)];
+            next[usize::from(incoming.0)] = upcoming[index_at(labels, incoming)];
         }
     }
 }
@@ -85,14 +81,12 @@ fn split_stars(
     requires edge_count_in_bounds { 2 * graph.edge_count < length upcoming.old }
     ensures { Split graph.node_count graph.edge_count offsets.now grouped.now dir_edges_marked.now labels.now next.new }
 {
-    let nodes = wide(graph.node_count);
-    let mut n = 0;
-    while n < nodes {
-        let from = wide(offsets[n]);
-        let to = wide(offsets[n + 1]);
+    let nodes = usize::from(graph.node_count);
+    for n in 0..nodes {
+        let from = usize::from(offsets[n]);
+        let to = usize::from(offsets[n + 1]);
         note_star(grouped, from, to, dir_edges_marked, labels, upcoming);
         relink_star(grouped, from, to, dir_edges_marked, labels, upcoming, next);
-        n += 1;
     }
 }
 

@@ -7,12 +7,12 @@ ghost use Rattle.std.specs.Prelude.{◌≡◌, ◌<◌, length};
 ghost use Rattle.stars.specs.Groups.{unmarked};
 
 pub use group::group_stars;
-use tables::{DirEdgeId, wide};
+use tables::DirEdgeId;
 
 // A half-edge is active while it is not marked.
 pub fn is_active(dir_edges_marked: &[bool], half: DirEdgeId) -> bool
     requires { half.0 < length dir_edges_marked.now }
     ensures { result ≡ unmarked dir_edges_marked.now half.0 }
 {
-    !dir_edges_marked[wide(half.0)]
+    !dir_edges_marked[usize::from(half.0)]
 }

@@ -3,7 +3,6 @@ ghost use Rattle.std.specs.Prelude.{◌≡◌};
 ghost use Rattle.replies.specs.Left.{lent, none, gives};
 ghost use Rattle.station_building.specs.Calls.{line_from_lem, added};
 
-use calls::Checked;
 use geometry::{Coord3D, Line3D};
 use lent_marks::{check_marks, read_marks, write_marks};
 use replies::{ADDED_LENGTH, STATE_LENGTH, answer_added, read_state};
@@ -51,7 +50,7 @@ pub extern "C" fn tukmiheb_add_line(
 {
     let graph = read_state(state);
     let checked = check_marks(graph, floats, numbers, stars, marks, ids);
-    if let Checked::Refused(why) = checked {
+    if let Err(why) = checked {
         return refusal_number(why);
     }
     let line = line_from(x1, y1, z1, x2, y2, z2, line_id);

@@ -3,7 +3,6 @@ ghost use Rattle.std.specs.Prelude.{◌≡◌};
 ghost use Rattle.replies.specs.Left.{lent, gives};
 ghost use Rattle.station_cuts.specs.Calls.{cut};
 
-use calls::Checked;
 use lent_marks::{check_marks, read_marks, write_marks};
 use replies::{CENSUS_LENGTH, STATE_LENGTH, answer_cutting, read_state};
 use tables::refusal_number;
@@ -25,7 +24,7 @@ pub extern "C" fn tukmiheb_delete_cut_edges(
 {
     let graph = read_state(state);
     let checked = check_marks(graph, floats, numbers, stars, marks, ids);
-    if let Checked::Refused(why) = checked {
+    if let Err(why) = checked {
         return refusal_number(why);
     }
     let mut row = read_marks(marks);

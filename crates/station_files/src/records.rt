@@ -5,7 +5,6 @@ ghost use Rattle.replies.specs.Left.{lent, none, gives};
 ghost use Rattle.station_files.specs.Calls.{records_added};
 
 use crate::answer::{FILE_LENGTH, answer_records};
-use calls::Checked;
 use lent_marks::{check_marks, read_marks, write_marks};
 use replies::{STATE_LENGTH, read_state};
 use tables::refusal_number;
@@ -28,7 +27,7 @@ pub extern "C" fn tukmiheb_add_records(
 {
     let graph = read_state(state);
     let checked = check_marks(graph, floats, numbers, stars, marks, ids);
-    if let Checked::Refused(why) = checked {
+    if let Err(why) = checked {
         return refusal_number(why);
     }
     let mut row = read_marks(marks);

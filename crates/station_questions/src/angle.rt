@@ -4,7 +4,8 @@ ghost use Rattle.geometry.specs.Coordinate.{coordinate_bound};
 ghost use Rattle.geometry.specs.Comparison.{comparison, order_of};
 ghost use Rattle.station_questions.specs.Questions.{order_number_lem, told_by, told_order, flat};
 
-use geometry::{AngularOrder, AngularReply, Coord3D};
+use geometry::{Coord3D, NotACoordinate};
+use std::cmp::Ordering;
 use tables::{Refusal, refusal_number};
 
 // One number for the order.
@@ -18,13 +19,13 @@ fn flat_point(x: f64, y: f64) -> Coord3D
 }
 
 // 0 before, 1 at one place, 2 after.
-fn order_number(order: AngularOrder) -> u8
+fn order_number(order: Ordering) -> u8
     ensures { result ≡ order_number_lem (order_of order) }
 {
     match order {
-        AngularOrder::Less => 0,
-        AngularOrder::Equal => 1,
-        AngularOrder::Greater => 2,
+        Ordering::Less => 0,
+        Ordering::Equal => 1,
+        Ordering::Greater => 2,
     }
 }
 
@@ -43,8 +44,8 @@ pub extern "C" fn tukmiheb_compare_angular(
 {
     let center = flat_point(cx, cy);
     match geometry::compare_angular(center, flat_point(ax, ay), flat_point(bx, by)) {
-        AngularReply::Refused => refusal_number(Refusal::NotWhole),
-        AngularReply::Order(order) => {
+        Err(NotACoordinate) => refusal_number(Refusal::NotWhole),
+        Ok(order) => {
             let number = order_number(order);
             *reply = [number];
             0

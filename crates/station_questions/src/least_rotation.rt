@@ -3,7 +3,7 @@ ghost use Rattle.std.specs.Prelude.{◌≡◌};
 ghost use Rattle.rotation.specs.Answers.{rotation_start, start_reply};
 ghost use Rattle.station_questions.specs.Questions.{told_by, told_start};
 
-use rotation::RotationStart;
+use rotation::{LengthsDiffer, Rotation};
 use tables::{Refusal, refusal_number};
 
 // Where it starts, and how many comparisons that took.
@@ -19,8 +19,8 @@ pub extern "C" fn tukmiheb_minimum_rotation_index(
     ensures { told_by result reply.new ≡ told_start reply.old (start_reply (rotation_start xs.now ys.now)) }
 {
     match rotation::minimum_rotation_index(xs, ys) {
-        RotationStart::LengthsDiffer => refusal_number(Refusal::ListTooShort),
-        RotationStart::At(start, comparisons) => {
+        Err(LengthsDiffer) => refusal_number(Refusal::ListTooShort),
+        Ok(Rotation { start, comparisons }) => {
             *reply = [start, comparisons];
             0
         }

@@ -47,19 +47,19 @@ pub extern "C" fn tukmiheb_read_record(
     ensures { gave_by result line.new reply.new ≡ gave_record line.old reply.old at (segment_next (drop at bytes.now)) }
 {
     match segment_file::read_record(bytes, at) {
-        Record::Segment(found, size) => {
+        Ok(Some(Record::Segment(found, size))) => {
             write_line(line, found);
             write_record(reply, IS_SEGMENT, found.line_id, at + size);
             0
         }
-        Record::Passed(size) => {
+        Ok(Some(Record::Passed(size))) => {
             write_record(reply, IS_PASSED, 0, at + size);
             0
         }
-        Record::End => {
+        Ok(None) => {
             reply[0] = 0;
             0
         }
-        Record::Refused(why) => file_number(why),
+        Err(why) => file_number(why),
     }
 }

@@ -3,7 +3,6 @@ ghost use Rattle.std.specs.Prelude.{◌≡◌};
 ghost use Rattle.file_rules.specs.RingFile.{lent, read_rings_lem};
 ghost use Rattle.station_ring_files.specs.Calls.{gave_by, gave, rings_read};
 
-use ring_file::RingsRead;
 use ring_reading::ring_file_number;
 
 // How many rings and how many node numbers were written.
@@ -32,12 +31,10 @@ pub extern "C" fn tukmiheb_read_rings(
         ring_doubled,
         nodes,
     ) {
-        RingsRead::Refused(why) => ring_file_number(why),
-        RingsRead::Read(rings, count) => {
-            let written = rings as u64;
-            let numbers = count as u64;
-            *reply = [written, numbers];
+        Ok(counted) => {
+            *reply = [counted.rings as u64, counted.nodes as u64];
             0
         }
+        Err(why) => ring_file_number(why),
     }
 }

@@ -3,7 +3,6 @@ ghost use Rattle.std.specs.Prelude.{◌≡◌};
 ghost use Rattle.file_rules.specs.RingFile.{lent, write_rings_lem};
 ghost use Rattle.station_ring_files.specs.Calls.{gave_by, gave, bytes_written};
 
-use ring_file::RingsWritten;
 use ring_reading::ring_file_number;
 
 // How many bytes were written.
@@ -23,11 +22,10 @@ pub extern "C" fn tukmiheb_write_rings(
     ensures { gave_by result out.new reply.new ≡ gave bytes_written reply.old (write_rings_lem (lent ring_first.now ring_length.now ring_face.now ring_doubled.now nodes.now) out.old) }
 {
     match ring_file::write_rings(ring_first, ring_length, ring_face, ring_doubled, nodes, out) {
-        RingsWritten::Refused(why) => ring_file_number(why),
-        RingsWritten::Written(count) => {
-            let bytes = count as u64;
-            *reply = [bytes];
+        Ok(bytes) => {
+            *reply = [bytes as u64];
             0
         }
+        Err(why) => ring_file_number(why),
     }
 }

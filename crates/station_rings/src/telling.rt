@@ -5,7 +5,6 @@ ghost use Rattle.extracting.specs.Extraction.{lists_of};
 ghost use Rattle.replies.specs.Left.{lent};
 ghost use Rattle.station_rings.specs.Telling.{Tells};
 
-use calls::Checked;
 use holes::Hole;
 use lent_marks::{check_marks, read_marks};
 use replies::{STATE_LENGTH, read_state};
@@ -57,7 +56,7 @@ pub fn rings_core(
 {
     let graph = read_state(state);
     let checked = check_marks(graph, floats, numbers, stars, marks, ids);
-    if let Checked::Refused(why) = checked {
+    if let Err(why) = checked {
         return turned_down(why);
     }
     let row = read_marks(marks);

@@ -3,7 +3,6 @@ ghost use Rattle.std.specs.Prelude.{◌≡◌, []};
 ghost use Rattle.replies.specs.Left.{lent, none, gives};
 ghost use Rattle.station_steps.specs.Calls.{sorted};
 
-use calls::Checked;
 use lent_marks::{check_marks, read_marks};
 use replies::{STATE_LENGTH, answer_step, read_state};
 use tables::refusal_number;
@@ -23,7 +22,7 @@ pub extern "C" fn tukmiheb_sort_edges(
 {
     let graph = read_state(state);
     let checked = check_marks(graph, floats, numbers, stars, marks, ids);
-    if let Checked::Refused(why) = checked {
+    if let Err(why) = checked {
         return refusal_number(why);
     }
     let row = read_marks(marks);

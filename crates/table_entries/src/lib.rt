@@ -9,7 +9,7 @@ ghost use Rattle.adding.specs.Written.{raised, two_at};
 ghost use Rattle.table_entries.specs.Written.{Raisable, StarRoom};
 
 use geometry::Line3D;
-use tables::{DEGREES, EdgeId, HALF_MARKS, NodeId, SEGMENTS, TARGETS, wide};
+use tables::{DEGREES, EdgeId, HALF_MARKS, NodeId, SEGMENTS, TARGETS};
 
 // The segment of an edge, six floats.
 pub fn put_segment(edge: EdgeId, line: Line3D, floats: &mut [f64])
@@ -21,7 +21,7 @@ pub fn put_segment(edge: EdgeId, line: Line3D, floats: &mut [f64])
 {
     let start = line.start;
     let end = line.end;
-    let at = SEGMENTS + 6 * wide(edge.0);
+    let at = SEGMENTS + 6 * usize::from(edge.0);
     floats[at] = start.x;
     floats[at + 1] = start.y;
     floats[at + 2] = start.z;
@@ -47,7 +47,7 @@ pub fn put_ends(edge: EdgeId, u: NodeId, v: NodeId, numbers: &mut [u16])
     ensures list { list_places_in limits numbers.new ≡ list_places_in limits numbers.old }
     ensures link { links_in limits numbers.new ≡ links_in limits numbers.old }
 {
-    let first = 2 * wide(edge.0);
+    let first = 2 * usize::from(edge.0);
     put_halves(numbers, first, u.0, v.0);
     put_halves(numbers, TARGETS + first, v.0, u.0);
 }
@@ -58,7 +58,7 @@ fn raise(node: NodeId, stars: &mut [u16])
     ensures star { star_table_in limits stars.new ≡ star_table_in limits stars.old }
     ensures degree { degrees_in limits stars.new ≡ raised (degrees_in limits stars.old) node.0 }
 {
-    let at = DEGREES + wide(node.0);
+    let at = DEGREES + usize::from(node.0);
     stars[at] = stars[at] + 1;
 }
 
@@ -69,7 +69,7 @@ pub fn put_last(edge: EdgeId, u: NodeId, v: NodeId, stars: &mut [u16])
     ensures degree { degrees_in limits stars.new ≡ raised (raised (degrees_in limits stars.old) u.0) v.0 }
 {
     let first = 2 * edge.0;
-    put_halves(stars, wide(first), first, first + 1);
+    put_halves(stars, usize::from(first), first, first + 1);
     raise(u, stars);
     raise(v, stars);
 }
@@ -80,7 +80,7 @@ pub fn unmark(edge: EdgeId, marks: &mut [bool])
     ensures node { node_marks_in limits marks.new ≡ node_marks_in limits marks.old }
     ensures half { half_marks_in limits marks.new ≡ two_at (half_marks_in limits marks.old) (2 * edge.0) false false }
 {
-    let at = HALF_MARKS + 2 * wide(edge.0);
+    let at = HALF_MARKS + 2 * usize::from(edge.0);
     marks[at] = false;
     marks[at + 1] = false;
 }

@@ -10,11 +10,7 @@ pub fn clear_marks(count: usize, marks: &mut [bool])
     requires { count ≤ length marks.old }
     ensures { marks.new ≡ over (replicate count false) marks.old }
 {
-    let mut i = 0;
-    while i < count {
-        marks[i] = false;
-        i += 1;
-    }
+    marks[..count].fill(false);
 }
 
 // The first degrees set to the counts.
@@ -22,9 +18,5 @@ pub fn write_degrees(nodes: usize, counts: &[u16; MAX_NODES], nodes_degree: &mut
     requires { (length counts.now ≡ limits.nodes) × (nodes ≤ limits.nodes) × (nodes ≤ length nodes_degree.old) }
     ensures { nodes_degree.new ≡ over (take nodes counts.now) nodes_degree.old }
 {
-    let mut n = 0;
-    while n < nodes {
-        nodes_degree[n] = counts[n];
-        n += 1;
-    }
+    nodes_degree[..nodes].copy_from_slice(&counts[..nodes]);
 }

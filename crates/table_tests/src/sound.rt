@@ -11,14 +11,14 @@ ghost use Rattle.table_tests.specs.Tests.{counts_within_lem, ends_swap_lem, twin
 ghost use Rattle.table_tests.specs.Given.{Room, Listable, Resettable};
 
 use crate::starts::count_starts;
-use tables::{MAX_EDGES, MAX_NODES, PlanarGraph, is_marked, wide};
+use tables::{MAX_EDGES, MAX_NODES, PlanarGraph, is_marked};
 
 // Counts are within the limits, and the stage is one of 0 to 4.
 fn counts_within(graph: PlanarGraph) -> bool
     ensures { result ≡ counts_within_lem limits graph.node_count graph.edge_count graph.stage }
 {
-    (wide(graph.node_count) <= MAX_NODES)
-        & (wide(graph.edge_count) <= MAX_EDGES)
+    (usize::from(graph.node_count) <= MAX_NODES)
+        & (usize::from(graph.edge_count) <= MAX_EDGES)
         & (graph.stage <= 4)
 }
 
@@ -42,10 +42,8 @@ fn all_ends_swap(nodes: u16, edges: usize, dir_edges_src: &[u16], dir_edges_dst:
     ensures { result ≡ all (ends_swap_lem nodes dir_edges_src.now dir_edges_dst.now) (upto edges) }
 {
     let mut good = true;
-    let mut k = 0;
-    while k < edges {
+    for k in 0..edges {
         good = good & ends_swap(nodes, dir_edges_src, dir_edges_dst, k);
-        k += 1;
     }
     good
 }
@@ -56,11 +54,9 @@ fn all_twins_alike(edges: usize, dir_edges_marked: &[bool]) -> bool
     ensures { result ≡ all (twins_alike dir_edges_marked.now) (upto edges) }
 {
     let mut good = true;
-    let mut k = 0;
-    while k < edges {
+    for k in 0..edges {
         let alike = is_marked(dir_edges_marked, 2 * k) == is_marked(dir_edges_marked, 2 * k + 1);
         good = good & alike;
-        k += 1;
     }
     good
 }
@@ -72,9 +68,8 @@ fn all_stand_once(halves: usize, nodes_outgoing: &[u16]) -> bool
     ensures { result ≡ all (stands_once halves nodes_outgoing.now) (upto halves) }
 {
     let mut seen = [false; 2 * MAX_EDGES];
-    let mut i = 0;
-    while i < halves {
-        let h = wide(nodes_outgoing[i]);
+    for i in 0..halves {
+        let h = usize::from(nodes_outgoing[i]);
         if halves <= h {
             return false;
         }
@@ -82,7 +77,6 @@ fn all_stand_once(halves: usize, nodes_outgoing: &[u16]) -> bool
             return false;
         }
         seen[h] = true;
-        i += 1;
     }
     true
 }
@@ -93,11 +87,9 @@ fn all_lie_whole(nodes: usize, nodes_x: &[f64], nodes_y: &[f64]) -> bool
     ensures { result ≡ all (lies_whole limits.bound nodes_x.now nodes_y.now) (upto nodes) }
 {
     let mut good = true;
-    let mut n = 0;
-    while n < nodes {
+    for n in 0..nodes {
         let whole = geometry::is_coordinate(nodes_x[n]) & geometry::is_coordinate(nodes_y[n]);
         good = good & whole;
-        n += 1;
     }
     good
 }
@@ -108,10 +100,8 @@ fn none_marked(count: usize, marks: &[bool]) -> bool
     ensures { result ≡ all (unmarked marks.now) (upto count) }
 {
     let mut good = true;
-    let mut i = 0;
-    while i < count {
+    for i in 0..count {
         good = good & !is_marked(marks, i);
-        i += 1;
     }
     good
 }
@@ -127,11 +117,9 @@ fn nodes_fresh(
     ensures { result ≡ all (node_fresh nodes_marked.now nodes_degree.now counts.now) (upto nodes) }
 {
     let mut good = true;
-    let mut n = 0;
-    while n < nodes {
+    for n in 0..nodes {
         let fresh = !is_marked(nodes_marked, n) & (nodes_degree[n] == counts[n]);
         good = good & fresh;
-        n += 1;
     }
     good
 }
@@ -150,8 +138,8 @@ fn tables_listed(
     requires { Listable limits graph.node_count graph.edge_count nodes_x.now nodes_y.now dir_edges_src.now dir_edges_dst.now dir_edges_marked.now nodes_outgoing.now }
     ensures { result ≡ listed_tables limits.bound graph.node_count graph.edge_count nodes_x.now nodes_y.now dir_edges_src.now dir_edges_dst.now dir_edges_marked.now nodes_outgoing.now }
 {
-    let nodes = wide(graph.node_count);
-    let edges = wide(graph.edge_count);
+    let nodes = usize::from(graph.node_count);
+    let edges = usize::from(graph.edge_count);
     all_ends_swap(graph.node_count, edges, dir_edges_src, dir_edges_dst)
         & all_twins_alike(edges, dir_edges_marked)
         & all_stand_once(2 * edges, nodes_outgoing)
@@ -169,8 +157,8 @@ fn tables_fresh(
     requires { Resettable limits graph.node_count graph.edge_count dir_edges_src.now nodes_degree.now nodes_marked.now dir_edges_marked.now }
     ensures { result ≡ fresh_tables graph.node_count (2 * graph.edge_count) nodes_degree.now nodes_marked.now dir_edges_src.now dir_edges_marked.now }
 {
-    let nodes = wide(graph.node_count);
-    let halves = 2 * wide(graph.edge_count);
+    let nodes = usize::from(graph.node_count);
+    let halves = 2 * usize::from(graph.edge_count);
     let counts = count_starts(halves, dir_edges_src);
     nodes_fresh(nodes, nodes_degree, nodes_marked, &counts) & none_marked(halves, dir_edges_marked)
 }

@@ -15,7 +15,7 @@ pub use crate::layout::{
 };
 
 // The counts and the stage: 0 building, 1 sorted, 2 pruned, 3 cut, 4 ringed. The tables are lent
-// beside it.
+// beside it. The stage is a number and no enum, since C lends it too, and number 7 tests whatever it is.
 #[derive(Clone, Copy)]
 pub struct PlanarGraph {
     pub node_count: u16,
@@ -51,6 +51,14 @@ pub enum Refusal {
     TooFewHoles,
 }
 
+// What a call leaves: the small state after it, and its value or why it was refused. A refused call
+// leaves the state as it was.
+#[derive(Clone, Copy)]
+pub struct Answer<T> {
+    pub graph: PlanarGraph,
+    pub reply: Result<T, Refusal>,
+}
+
 // The documents' number of a refusal.
 pub fn refusal_number(why: Refusal) -> u32
     ensures { result ≡ refusal_number_lem why }
@@ -82,13 +90,6 @@ pub const MAX_SHAPED: usize = 2 * MAX_EDGES / 3;
 
 // No place: it ends a list of line ids.
 pub const LIST_END: u16 = 65535;
-
-// A number as an index.
-pub fn wide(n: u16) -> usize
-    ensures { result ≡ n }
-{
-    n as usize
-}
 
 // The mark at place i.
 pub fn is_marked(marks: &[bool], i: usize) -> bool

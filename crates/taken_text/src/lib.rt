@@ -9,14 +9,14 @@ ghost use Rattle.listing_steps.specs.Due.{Due};
 ghost use Rattle.taken_text.specs.File.{text_of};
 
 use tables::PlanarGraph;
-use taking::TakeReply;
+use taking::{TakeRefusal, take_number};
 
 // The text of what was taken, at the front of `out`: the line of the refusal that record `records` met,
 // or the listing of the graph. Answers how many bytes it has.
 pub fn put_taken(
     graph: PlanarGraph,
     records: u64,
-    reply: TakeReply,
+    reply: Result<(), TakeRefusal>,
     floats: &[f64],
     numbers: &[u16],
     stars: &mut [u16],
@@ -28,11 +28,9 @@ pub fn put_taken(
     ensures { Put 0 (text_of (reply_of reply) records (state_in limits graph floats.now numbers.now stars.old marks.old ids.now)) out.old out.new result }
 {
     match reply {
-        TakeReply::Done => listing_steps::put_listing(
-            graph, floats, numbers, stars, marks, ids, out,
-        ),
-        TakeReply::Refused(number) => {
-            let shown = number as u64;
+        Ok(()) => listing_steps::put_listing(graph, floats, numbers, stars, marks, ids, out),
+        Err(why) => {
+            let shown = u64::from(take_number(why));
             listing_text::put_refusal(out, 0, shown, records)
         }
     }

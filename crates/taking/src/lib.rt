@@ -4,30 +4,45 @@
 ghost use Rattle.std.specs.Prelude.{◌≡◌};
 ghost use Rattle.adding.specs.Outcomes.{reply_of as add_reply_of};
 ghost use Rattle.taking.specs.Taking.{after_adding_lem};
-ghost use Rattle.taking.specs.Answers.{rest_of};
+ghost use Rattle.taking.specs.Answers.{number_of, rest_of};
+ghost use Rattle.taking.specs.declared.TakeRefusal.TheVariants.{Record};
 
-use adding::AddReply;
-use tables::{PlanarGraph, refusal_number};
+use adding::LineEdge;
+use frames::{FileRefusal, file_number};
+use std::ops::ControlFlow;
+use tables::{PlanarGraph, Refusal, refusal_number};
 
-// What taking answers: all was taken, or the documents' number of the first refusal.
+// Why taking ends before the file does: a record's frame is refused, or the addition of its segment.
 #[derive(Clone, Copy)]
-pub enum TakeReply {
-    Done,
-    Refused(u32),
+pub enum TakeRefusal {
+    Record(FileRefusal),
+    Segment(Refusal),
 }
 
-// What follows a record: the next one, behind so many bytes, or nothing, with the answer to all of them.
-#[derive(Clone, Copy)]
-pub enum Next {
-    Onward(usize),
-    Ended(TakeReply),
+impl From<FileRefusal> for TakeRefusal {
+    ghost from_gives = { λ why given. given ≡ Record why };
+
+    fn from(why: FileRefusal) -> TakeRefusal {
+        TakeRefusal::Record(why)
+    }
+}
+
+// The documents' number of it.
+pub fn take_number(why: TakeRefusal) -> u32
+    ensures { result ≡ number_of why }
+{
+    match why {
+        TakeRefusal::Record(frame) => file_number(frame),
+        TakeRefusal::Segment(added) => refusal_number(added),
+    }
 }
 
 // The counts and the stage after one record, what follows it, and the lowest free place for a line id.
+// The next record follows behind so many bytes, or nothing does, with the answer to all of them.
 #[derive(Clone, Copy)]
 pub struct Turn {
     pub graph: PlanarGraph,
-    pub next: Next,
+    pub next: ControlFlow<Result<(), TakeRefusal>, usize>,
     pub free: u16,
 }
 
@@ -38,16 +53,19 @@ pub struct Taken {
     pub graph: PlanarGraph,
     pub count: usize,
     pub bytes: usize,
-    pub reply: TakeReply,
+    pub reply: Result<(), TakeRefusal>,
 }
 
 // An added segment takes its record's bytes; a refused one ends the taking.
-pub fn after_adding(reply: AddReply, size: usize) -> Next
+pub fn after_adding(
+    reply: Result<LineEdge, Refusal>,
+    size: usize,
+) -> ControlFlow<Result<(), TakeRefusal>, usize>
     ensures { rest_of result ≡ after_adding_lem (add_reply_of reply) size }
 {
     match reply {
-        AddReply::New(_) => Next::Onward(size),
-        AddReply::Old(_) => Next::Onward(size),
-        AddReply::Refused(why) => Next::Ended(TakeReply::Refused(refusal_number(why))),
+        Ok(LineEdge::New(_)) => ControlFlow::Continue(size),
+        Ok(LineEdge::Old(_)) => ControlFlow::Continue(size),
+        Err(why) => ControlFlow::Break(Err(TakeRefusal::Segment(why))),
     }
 }

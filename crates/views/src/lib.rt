@@ -9,9 +9,8 @@ ghost use Rattle.inside.specs.Spots.{spot, Near, Spotted};
 ghost use Rattle.holding.specs.Maps.{Starting};
 ghost use Rattle.views.specs.Views.{along_of_lem, Slanted};
 
-use tables::wide;
-
-// The views by number: as it is, and slanted one way and the other.
+// The views by number: as it is, and slanted one way and the other. They are numbers and no enum, since
+// `list_holes` answers for every number, as its clauses say.
 pub const PLAIN: u8 = 0;
 
 const RISING: u8 = 1;
@@ -40,19 +39,9 @@ pub fn write_along(slope: u8, xs: &[i64], ys: &[i64], count: usize, along: &mut 
     requires { Spotted coordinate_bound count xs.now ys.now × (count ≤ length along.old) }
     ensures { Slanted slope xs.now ys.now count along.new }
 {
-    let mut n = 0;
-    while n < count {
+    for n in 0..count {
         along[n] = along_of(slope, xs[n], ys[n]);
-        n += 1;
     }
-}
-
-// A number without its sign.
-fn size(d: f64) -> f64 {
-    if d < 0.0 {
-        return 0.0 - d;
-    }
-    d
 }
 
 // The node where half-edge k of a list starts.
@@ -60,8 +49,8 @@ fn node_of(half_edges: &[u16], dir_edges_src: &[u16], k: usize) -> usize
     requires { (k < length half_edges.now) × (get_or half_edges.now k 0 < length dir_edges_src.now) }
     ensures { result ≡ get_or dir_edges_src.now (get_or half_edges.now k 0) 0 }
 {
-    let half = wide(half_edges[k]);
-    wide(dir_edges_src[half])
+    let half = usize::from(half_edges[k]);
+    usize::from(dir_edges_src[half])
 }
 
 // The view in which the way along the rings goes least to the sides. Any view gives the same holders;
@@ -77,16 +66,14 @@ pub fn choose_slope(
     let mut plain = 0.0;
     let mut rising = 0.0;
     let mut falling = 0.0;
-    let mut k = 1;
-    while k < half_edges.len() {
+    for k in (1..half_edges.len()).step_by(EVERY) {
         let a = node_of(half_edges, dir_edges_src, k - 1);
         let b = node_of(half_edges, dir_edges_src, k);
         let dx = nodes_x[b] - nodes_x[a];
         let dy = nodes_y[b] - nodes_y[a];
-        plain = plain + size(dx);
-        rising = rising + size(dx + dy);
-        falling = falling + size(dx - dy);
-        k += EVERY;
+        plain += dx.abs();
+        rising += (dx + dy).abs();
+        falling += (dx - dy).abs();
     }
     if rising < plain {
         return RISING;

@@ -7,7 +7,7 @@ ghost use Rattle.tables.specs.declared.PlanarGraph.{PlanarGraph};
 ghost use Rattle.table_entries.specs.Written.{IdRoom};
 
 use pair_entries::{put_behind, put_first, put_lowest, put_pair};
-use tables::{EdgeId, LIST_END, LIST_PLACES, wide};
+use tables::{EdgeId, LIST_END, LIST_PLACES};
 
 // An id that is new to an edge, as a pair at a place: behind the last pair of its list with a lower id,
 // or first where there is none, and then the edge's line id is lowered to it.
@@ -25,7 +25,7 @@ pub fn enter_id(
         ≡ with_id false limits.pairs edge.0 id place (state_in limits graph floats numbers.old stars marks ids.old) }
 {
     if behind == LIST_END {
-        let first = numbers[LIST_PLACES + wide(edge.0)];
+        let first = numbers[LIST_PLACES + usize::from(edge.0)];
         put_first(edge, place, first, numbers);
         put_lowest(edge, place, id, ids);
     } else {

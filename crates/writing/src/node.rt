@@ -7,7 +7,7 @@ ghost use Rattle.tables.specs.declared.PlanarGraph.{PlanarGraph};
 ghost use Rattle.table_entries.specs.Written.{node_counted, NodeRoom};
 
 use geometry::Coord3D;
-use tables::{DEGREES, NODES_Y, NODES_Z, NodeId, wide};
+use tables::{DEGREES, NODES_Y, NODES_Z, NodeId};
 
 // The next node, made from a point where it is new. z is moved as it is.
 pub fn add_node(
@@ -24,7 +24,7 @@ pub fn add_node(
         ≡ with_node is_new node.0 point (state_in limits graph floats.old numbers stars.old marks.old ids) }
 {
     if is_new {
-        let n = wide(node.0);
+        let n = usize::from(node.0);
         floats[n] = point.x;
         floats[NODES_Y + n] = point.y;
         floats[NODES_Z + n] = point.z;

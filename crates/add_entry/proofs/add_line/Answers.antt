@@ -4,8 +4,7 @@ use Rattle.rules.specs.Limits.{limits}
 use Rattle.rules.specs.State.{State}
 use Rattle.rules.specs.Claim.{Given64}
 use Rattle.tables.specs.Regions.{state_in}
-use Rattle.calls.specs.declared.checks.Checked.TheVariants.{Passed}
-use Rattle.calls.specs.Checks.{stage_check}
+use Rattle.calls.specs.Checks.{stage_check, passed}
 use Rattle.calls.proofs.Shells.{stage-passed}
 use Rattle.adding.specs.Outcomes.{Ready}
 use Rattle.placing.proofs.Seekable.{seekable_in}
@@ -16,7 +15,7 @@ use Rattle.add_entry.proofs.add_line.Goals.{Start}
 use Rattle.add_entry.proofs.add_line.Goals as goal
 
 -- the tests passed
-ready : (s : State) → Passed ≡ stage_check limits 0 s → Ready limits s
+ready : (s : State) → passed ≡ stage_check limits 0 s → Ready limits s
 ready s e =
     let g = stage-passed limits 0 s e in
     record { room = g.0.room; sense = g.0.sense; stage = g.1 }
@@ -25,11 +24,11 @@ ready s e =
 given : (c : Start) → Given64 c.args.line
 given c = search rules
 
-pub returns-in-Refused : goal.returns-in-Refused
-returns-in-Refused c =
+pub returns-in-Err : goal.returns-in-Err
+returns-in-Err c =
     let a = c.args in
     record {
-      outcome = add_stops limits a.line (state_in limits a.graph a.floats.now a.numbers.now a.stars.now a.marks.now a.ids.now) _ (sym c.in-Refused.is ∙ c.check_stage-checked.ensures);
+      outcome = add_stops limits a.line (state_in limits a.graph a.floats.now a.numbers.now a.stars.now a.marks.now a.ids.now) _ (sym c.in-Err.is ∙ c.check_stage-checked.ensures);
       floats = given (record { lifetimes = c.lifetimes; args = a; well_formed = c.well_formed; requires = c.requires });
     }
 

@@ -14,14 +14,14 @@ pub put_candidate-requires : goal.put_candidate-requires
 put_candidate-requires c =
     let q = c.loop-i in
     let g = c.requires in
-    let yes = eq-eqb _ 1 (ap (λ n. get_or c.args.ring_side.now n 0) (sym c.wide.ensures) ∙ c.if-enclosed.true) in
+    let yes = eq-eqb _ 1 (ap (λ n. get_or c.args.ring_side.now n 0) (sym c.from.ensures) ∙ c.if-enclosed.true) in
     listed-writable g.1 c.loop-i-test.true (q.invariant.listed g.0 g.1) yes q.invariant.same_rings q.invariant.same_numbers
 
 pub loop-i-preserved : goal.loop-i-preserved
 loop-i-preserved c =
     let q = c.loop-i in
     let more = c.loop-i-test.true in
-    let side = ap (λ n. get_or c.args.ring_side.now n 0) (sym c.wide.ensures) in
+    let side = ap (λ n. get_or c.args.ring_side.now n 0) (sym c.from.ensures) in
     elim c.if-enclosed.branch [
       | then-enclosed w ↦
           rw (w.rings-is, w.numbers-is, w.n-is) (gone_one more q.invariant (eq-eqb _ 1 (side ∙ w.if-enclosed.true)) w.put_candidate.ensures)

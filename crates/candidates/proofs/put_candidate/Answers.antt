@@ -15,7 +15,7 @@ use Rattle.candidates.proofs.put_candidate.Goals.{After-passes_all}
 pub doubled_area-requires : goal.doubled_area-requires
 doubled_area-requires c =
     let h = c.requires.halved in
-    (h.0, subst (λ k. HalfOf (get_or c.args.ring_area.now k nan) h.0) (sym c.wide.ensures) h.1)
+    (h.0, subst (λ k. HalfOf (get_or c.args.ring_area.now k nan) h.0) (sym c.from.ensures) h.1)
 
 pub put_numbers-requires : goal.put_numbers-requires
 put_numbers-requires c =
@@ -34,7 +34,7 @@ set_is c =
     let area = a.ring_area.now in
     written a.xs.now a.ys.now a.nodes.now a.ring_first.now a.ring_length.now area a.node_count a.i a.n a.rings.now a.numbers.now c.put_numbers.new.numbers c.sides_at-sides.result (to_z w64 (of_z w64 c.doubled_area.result))
     c.requires.in_numbers c.sides_at-sides.ensures
-    (λ z h. to_z-of_z w64 c.doubled_area.result (record { sfits = c.doubled_area.type_inv }) ∙ c.doubled_area.ensures z (subst (λ k. HalfOf (get_or area k nan) z) (sym c.wide.ensures) h))
+    (λ z h. to_z-of_z w64 c.doubled_area.result (record { sfits = c.doubled_area.type_inv }) ∙ c.doubled_area.ensures z (subst (λ k. HalfOf (get_or area k nan) z) (sym c.from.ensures) h))
     c.put_numbers.ensures
 
 pub returns-then-passes_all : goal.returns-then-passes_all

@@ -6,8 +6,8 @@ use Rattle.calls.proofs.Shells.{stage-passed}
 use Rattle.file_entry.proofs.Shell.{records_stop, records_pass}
 use Rattle.file_entry.proofs.add_records.Goals as goal
 
-pub returns-in-Refused : goal.returns-in-Refused
-returns-in-Refused c = records_stop limits c.args.bytes.now (state_in limits c.args.graph c.args.floats.now c.args.numbers.now c.args.stars.now c.args.marks.now c.args.ids.now) _ (sym c.in-Refused.is ∙ c.check_stage-checked.ensures)
+pub returns-in-Err : goal.returns-in-Err
+returns-in-Err c = records_stop limits c.args.bytes.now (state_in limits c.args.graph c.args.floats.now c.args.numbers.now c.args.stars.now c.args.marks.now c.args.ids.now) _ (sym c.in-Err.is ∙ c.check_stage-checked.ensures)
 
 pub take_file-requires : goal.take_file-requires
 take_file-requires c =

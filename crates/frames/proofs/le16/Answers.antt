@@ -12,6 +12,6 @@ returns c =
     let l : a.at < length a.bytes.now = omega arith in
     let h : a.at + 1 < length a.bytes.now = omega arith in
     let r : a.at + 1 ≤ length a.bytes.now = omega arith in
-    field-join 1 1 a.bytes.now a.at c.wide-low.result c.wide-high.result r
-    (c.wide-low.ensures.0 ∙ field-one a.bytes.now a.at l)
-    (c.wide-high.ensures.0 ∙ field-one a.bytes.now (a.at + 1) h)
+    field-join 1 1 a.bytes.now a.at c.from-low.result c.from-high.result r
+    (c.from-low.ensures ∙ field-one a.bytes.now a.at l)
+    (c.from-high.ensures ∙ field-one a.bytes.now (a.at + 1) h)

@@ -1,5 +1,6 @@
 -- `le64` meets its contract: its two halves, joined.
 use Prim.Native.Nat.{◌+◌, ◌≤◌}
+use mathlib.Core.Path.{◌∙◌}
 use native.Mathlib.Omega.{arith}
 use lib.ListN.{length}
 use Rattle.frames.proofs.Bytes.{field-join}
@@ -9,4 +10,4 @@ pub returns : goal.returns
 returns c =
     let a = c.args in
     let r : a.at + 4 ≤ length a.bytes.now = omega arith in
-    field-join 4 4 a.bytes.now a.at c.le32-low.result c.le32-high.result r c.le32-low.ensures c.le32-high.ensures
+    field-join 4 4 a.bytes.now a.at c.from-low.result c.from-high.result r (c.from-low.ensures ∙ c.le32.ensures) (c.from-high.ensures ∙ c.le32-2.ensures)

@@ -1,10 +1,13 @@
 -- `read_frame` meets its contract, for all bytes and places: each return is a case of the definition.
 use native.Mathlib.Omega.{arith}
-use mathlib.Core.Path.{ap, ◌∙◌}
+use mathlib.Core.Path.{◌≡◌, sym, ap, subst, ◌∙◌}
 use lib.ListN.{drop, length-drop}
-use Rattle.file_rules.specs.Records.{field, whole_frame_lem, frame}
+use Rattle.std.proofs.lemmas.Result.{err_from_is_err_and}
+use Rattle.file_rules.specs.Records.{wrong, field, whole_frame_lem, frame}
+use Rattle.frames.specs.Frames.{number_of, frame_of, Skips}
 use Rattle.frames.proofs.Cases.{whole_none, frame-none, frame-short, frame_whole, kind_at}
 use Rattle.frames.proofs.read_frame.Goals as goal
+use Rattle.frames.proofs.read_frame.Goals.{After-le16}
 
 pub returns-then-bytes-at : goal.returns-then-bytes-at
 returns-then-bytes-at c =
@@ -35,10 +38,24 @@ returns-then-length-lt-KIND_BYTES c =
       skipped = tt;
     }
 
+-- what the length and the kind decide is what the bytes begin with
+decided : (c : After-le16) → whole_frame_lem c.le32-length.result c.le16.result ≡ frame (drop c.args.at c.args.bytes.now)
+decided c =
+    let a = c.args in
+    ap (whole_frame_lem c.le32-length.result) (c.le16.ensures ∙ kind_at a.bytes.now a.at)
+    ∙ (ap (λ n. whole_frame_lem n (field (drop a.at a.bytes.now) 4 2)) c.le32-length.ensures
+    ∙ frame_whole (drop a.at a.bytes.now) (omega (arith, (length-drop a.at a.bytes.now), c.if-left-lt-LENGTH_BYTES.false, c.le32-length.ensures, c.if-missing.false)))
+
 pub returns : goal.returns
-returns c =
-    let a = c.args in record {
-      frame = c.whole_frame.ensures.frame ∙ ap (whole_frame_lem c.le32-length.result) (c.le16.ensures ∙ kind_at a.bytes.now a.at) ∙ (ap (λ n. whole_frame_lem n (field (drop c.args.at c.args.bytes.now) 4 2)) c.le32-length.ensures
-          ∙ frame_whole (drop c.args.at c.args.bytes.now) (omega (arith, (length-drop c.args.at c.args.bytes.now), c.if-left-lt-LENGTH_BYTES.false, c.le32-length.ensures, c.if-missing.false)));
-      skipped = c.whole_frame.ensures.skipped;
+returns c = record {
+  frame = c.in_ok-whole.ensures.frame ∙ decided (goal.at.returns c).After-le16;
+  skipped = c.in_ok-whole.ensures.skipped;
+}
+
+pub returns-in_err-whole : goal.returns-in_err-whole
+returns-in_err-whole c =
+    let p = err_from_is_err_and c.from_residual.result c.from_residual.ensures.1 in
+    record {
+      frame = ap frame_of p.1 ∙ ap (λ why. wrong (number_of why)) p.2 ∙ c.in_err-whole.ensures.frame ∙ decided (goal.at.returns-in_err-whole c).After-le16;
+      skipped = subst Skips (sym p.1) tt;
     }

@@ -1,9 +1,6 @@
--- `run` ends: each turn begins at a later place of the text.
-use Rattle.std.proofs.Common.{◌-◌, length}
+-- `run` ends: each turn leaves less of the text.
+use Rattle.std.proofs.Common.{length}
 use Rattle.graph_cases.proofs.run.Given as goal
 
-abbrev pub invariant-loop-at : goal.invariant-loop-at
-invariant-loop-at g l = Unit {0}
-
-abbrev pub decreases-loop-at : goal.decreases-loop-at
-decreases-loop-at g l = length l.text - l.at
+abbrev pub decreases-loop-rest : goal.decreases-loop-rest
+decreases-loop-rest g l = length l.rest

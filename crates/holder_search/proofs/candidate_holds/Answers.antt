@@ -12,7 +12,7 @@ use Rattle.holding.specs.Maps.{Map, map_of, part_of, Laid}
 use Rattle.holding.specs.Holding.{holds_by_lem, Restamped}
 use Rattle.holder_search.proofs.HoldingLaws.{candidate_ring, candidate_laid, holds_at, nodes-within, stamp_fresh, stamps_kept}
 use Rattle.holder_search.proofs.candidate_holds.Goals as goal
-use Rattle.holder_search.proofs.candidate_holds.Goals.{Start, After-wide}
+use Rattle.holder_search.proofs.candidate_holds.Goals.{Start, After-from}
 
 -- the map of the lists and tables
 abbrev here : Start → Map
@@ -34,18 +34,18 @@ low c =
     (omega (arith, h, f.map.in_first), omega (arith, h, f.map.in_size), omega (arith, h, f.map.few))
 
 -- where the part begins and how long it is
-first_is : (c : After-wide) → c.wide-first.result ≡ get_or c.args.ring_first.now (get_or c.args.rings.now c.args.j 0) 0
-first_is c = c.wide-first.ensures ∙ ap (λ k. get_or c.args.ring_first.now k 0) c.wide-i.ensures
+first_is : (c : After-from) → c.from-first.result ≡ get_or c.args.ring_first.now (get_or c.args.rings.now c.args.j 0) 0
+first_is c = c.from-first.ensures ∙ ap (λ k. get_or c.args.ring_first.now k 0) c.from-i.ensures
 
-size_is : (c : After-wide) → c.wide.result ≡ get_or c.args.ring_length.now (get_or c.args.rings.now c.args.j 0) 0
-size_is c = c.wide.ensures ∙ ap (λ k. get_or c.args.ring_length.now k 0) c.wide-i.ensures
+size_is : (c : After-from) → c.from.result ≡ get_or c.args.ring_length.now (get_or c.args.rings.now c.args.j 0) 0
+size_is c = c.from.ensures ∙ ap (λ k. get_or c.args.ring_length.now k 0) c.from-i.ensures
 
 -- a part that is cut out is the ring's
-part_is : (c : After-wide) (l : List ℕ) → let f = c.wide-first.result in let n = c.wide.result in
-    take (f + n - f) (drop f l) ≡ part_of (here (goal.at.After-wide c).Start) (get_or c.args.rings.now c.args.j 0) l
+part_is : (c : After-from) (l : List ℕ) → let f = c.from-first.result in let n = c.from.result in
+    take (f + n - f) (drop f l) ≡ part_of (here (goal.at.After-from c).Start) (get_or c.args.rings.now c.args.j 0) l
 part_is c l =
-    let f = c.wide-first.result in
-    let n = c.wide.result in
+    let f = c.from-first.result in
+    let n = c.from.result in
     let size : f + n - f ≡ n = omega arith in
     ap (λ k. take k (drop f l)) size ∙ ap₂ (λ k g. take k (drop g l)) (size_is c) (first_is c)
 
@@ -53,20 +53,20 @@ pub bounds-rings-j : goal.bounds-rings-j
 bounds-rings-j c = omega (arith, c.requires.7, c.requires.3.candidates.in_rings)
 
 pub bounds-ring_first-i : goal.bounds-ring_first-i
-bounds-ring_first-i c = omega (arith, (low (goal.at.bounds-ring_first-i c).Start).0, c.wide-i.ensures)
+bounds-ring_first-i c = omega (arith, (low (goal.at.bounds-ring_first-i c).Start).0, c.from-i.ensures)
 
 pub bounds-ring_length-i : goal.bounds-ring_length-i
-bounds-ring_length-i c = omega (arith, (low (goal.at.bounds-ring_length-i c).Start).1, c.wide-i.ensures)
+bounds-ring_length-i c = omega (arith, (low (goal.at.bounds-ring_length-i c).Start).1, c.from-i.ensures)
 
 -- the part ends within the list
-ends : (c : After-wide) → c.wide-first.result + c.wide.result ≤ length c.args.nodes.now
-ends c = omega (arith, (laid (goal.at.After-wide c).Start).in_nodes, first_is c, size_is c)
+ends : (c : After-from) → c.from-first.result + c.from.result ≤ length c.args.nodes.now
+ends c = omega (arith, (laid (goal.at.After-from c).Start).in_nodes, first_is c, size_is c)
 
 pub overflow_add-end : goal.overflow_add-end
-overflow_add-end c = omega (arith, ends (goal.at.overflow_add-end c).After-wide)
+overflow_add-end c = omega (arith, ends (goal.at.overflow_add-end c).After-from)
 
 pub slice_bounds-ring_holds-end : goal.slice_bounds-ring_holds-end
-slice_bounds-ring_holds-end c = ends (goal.at.slice_bounds-ring_holds-end c).After-wide
+slice_bounds-ring_holds-end c = ends (goal.at.slice_bounds-ring_holds-end c).After-from
 
 pub overflow_add-ring : goal.overflow_add-ring
 overflow_add-ring c = omega (arith, (low (goal.at.overflow_add-ring c).Start).2)
@@ -82,7 +82,7 @@ ring_holds-requires c =
     let source = a.dir_edges_src.now in
     let f = c.requires.3 in
     let stamps = c.requires.4 in
-    let part = part_is h.After-wide a.nodes.now in
+    let part = part_is h.After-from a.nodes.now in
     let own = sym (part ∙ l.nodes) in record {
       by_index = (
         bound,
@@ -108,11 +108,11 @@ returns c =
     let at = spot_in a.xs.now a.ys.now in record {
       held = λ rs bound slope o x y field opening.
           done.ensures.held
-          ∙ ap (λ k. holds_by_lem at k a.inner.now) (part_is h.After-wide a.nodes.now)
+          ∙ ap (λ k. holds_by_lem at k a.inner.now) (part_is h.After-from a.nodes.now)
           ∙ holds_at rs (here h.Start) bound slope a.rings.now a.numbers.now a.count field o a.inner.now a.corner.0 x y opening a.j c.requires.7;
       stamps = λ rs bound slope field stamps.
           let l = candidate_laid rs (here h.Start) bound slope a.rings.now a.numbers.now a.count field a.j c.requires.7 in
-          let own = part_is h.After-wide a.nodes.now ∙ l.nodes in
+          let own = part_is h.After-from a.nodes.now ∙ l.nodes in
           stamps_kept rs a.dir_edges_src.now bound a.stamps.now done.new.stamps stamps i
           (subst (λ n. Restamped n (i + 1) a.stamps.now done.new.stamps) own done.ensures.stamps);
     }

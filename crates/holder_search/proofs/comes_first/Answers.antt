@@ -49,15 +49,15 @@ returns-then-larger c =
     let d = (goal.at.returns-then-larger c).After-doubled_of-other in
     rw (one d, sym (mine_first d) ∙ c.if-smaller.false, sym (other_first d) ∙ c.if-larger.true) refl
 
-pub bounds-ring_face-wide : goal.bounds-ring_face-wide
-bounds-ring_face-wide c = omega (arith, c.wide.ensures, c.requires.4 c.args.j c.requires.0)
+pub bounds-ring_face-from : goal.bounds-ring_face-from
+bounds-ring_face-from c = omega (arith, c.from.ensures, c.requires.4 c.args.j c.requires.0)
 
-pub bounds-ring_face-wide-2 : goal.bounds-ring_face-wide-2
-bounds-ring_face-wide-2 c = omega (arith, c.wide-2.ensures, c.requires.4 c.args.best (omega (arith, c.requires.1, c.if-best-count.false)))
+pub bounds-ring_face-from-2 : goal.bounds-ring_face-from-2
+bounds-ring_face-from-2 c = omega (arith, c.from-2.ensures, c.requires.4 c.args.best (omega (arith, c.requires.1, c.if-best-count.false)))
 
 pub returns : goal.returns
 returns c =
     let d = (goal.at.returns c).After-doubled_of-other in
     let face = c.args.ring_face.now in
     rw (one d, sym (mine_first d) ∙ c.if-smaller.false, sym (other_first d) ∙ c.if-larger.false)
-    (ap₂ (λ v w. ltb (get_or face v 0) (get_or face w 0)) c.wide.ensures c.wide-2.ensures)
+    (ap₂ (λ v w. ltb (get_or face v 0) (get_or face w 0)) c.from.ensures c.from-2.ensures)

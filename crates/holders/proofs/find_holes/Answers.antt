@@ -34,10 +34,10 @@ AskedAt c rs =
 
 -- x and y as whole numbers
 xs_are : (c : After-write_nodes) → c.write_whole.new.out ≡ over (take c.args.node_count (map value c.args.nodes_x.now)) no_numbers
-xs_are c = c.write_whole.ensures ∙ ap (λ n. over (take n (map value c.args.nodes_x.now)) no_numbers) c.wide.ensures
+xs_are c = c.write_whole.ensures ∙ ap (λ n. over (take n (map value c.args.nodes_x.now)) no_numbers) c.from.ensures
 
 ys_are : (c : After-write_nodes) → c.write_whole-2.new.out ≡ over (take c.args.node_count (map value c.args.nodes_y.now)) no_numbers
-ys_are c = c.write_whole-2.ensures ∙ ap (λ n. over (take n (map value c.args.nodes_y.now)) no_numbers) c.wide-2.ensures
+ys_are c = c.write_whole-2.ensures ∙ ap (λ n. over (take n (map value c.args.nodes_y.now)) no_numbers) c.from-2.ensures
 
 -- the map of them
 abbrev map_with : Start → List ℤ → List ℤ → List ℕ → Map
@@ -65,13 +65,13 @@ spots c rs asked =
 pub write_whole-requires : goal.write_whole-requires
 write_whole-requires c =
     let p = c.requires.1.placed in
-    let e = c.wide.ensures in
+    let e = c.from.ensures in
     (omega (arith, e, p.in_xs), omega (arith, e, p.few), λ n l. p.whole_x n (omega (arith, e, l)))
 
 pub write_whole-requires-2 : goal.write_whole-requires-2
 write_whole-requires-2 c =
     let p = c.requires.1.placed in
-    let e = c.wide-2.ensures in
+    let e = c.from-2.ensures in
     (omega (arith, e, p.in_ys), omega (arith, e, p.few), λ n l. p.whole_y n (omega (arith, e, l)))
 
 pub write_nodes-requires : goal.write_nodes-requires

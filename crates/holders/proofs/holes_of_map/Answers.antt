@@ -40,7 +40,7 @@ listed : (c : After-list_boxed-count) (rs : List Ring) → let s = (goal.at.Afte
 listed c rs ready =
     let a = c.args in
     let m = here (goal.at.After-list_boxed-count c).Start in
-    let w = c.wide in
+    let w = c.from in
     let r = c.list_boxed-count in
     let b = ready_boxable rs a.node_count m a.ring_side.now a.ring_area.now a.ring_count ready no_rings no_numbers (omega arith) (omega arith) in
     let l = r.ensures rs (subst (λ n. Boxable rs n m.nodes m.xs m.ys m.first m.size a.ring_side.now a.ring_area.now a.ring_count no_rings no_numbers) (sym w.ensures) b) in (
@@ -64,7 +64,7 @@ list_boxed-count-requires c =
     let p = c.requires in
     let m = here (goal.at.list_boxed-count-requires c).Start in (
       p.0,
-      subst (λ n. Boxable p.0 n m.nodes m.xs m.ys m.first m.size a.ring_side.now a.ring_area.now a.ring_count no_rings no_numbers) (sym c.wide.ensures)
+      subst (λ n. Boxable p.0 n m.nodes m.xs m.ys m.first m.size a.ring_side.now a.ring_area.now a.ring_count no_rings no_numbers) (sym c.from.ensures)
           (ready_boxable p.0 a.node_count m a.ring_side.now a.ring_area.now a.ring_count p.1 no_rings no_numbers (omega arith) (omega arith)),
     )
 

@@ -18,8 +18,8 @@ start_of source halves k low =
 pub loop-k-init : goal.loop-k-init
 loop-k-init c = (omega arith, refl, refl)
 
-pub bounds-dir_edges_src-wide : goal.bounds-dir_edges_src-wide
-bounds-dir_edges_src-wide c = omega (arith, c.requires.1 c.loop-k.k c.loop-k-test.true, c.wide.ensures)
+pub bounds-dir_edges_src-from : goal.bounds-dir_edges_src-from
+bounds-dir_edges_src-from c = omega (arith, c.requires.1 c.loop-k.k c.loop-k-test.true, c.from.ensures)
 
 pub loop-k-preserved : goal.loop-k-preserved
 loop-k-preserved c =
@@ -29,9 +29,9 @@ loop-k-preserved c =
     let row = ring_nodes (origins source) halves in
     let low : q.k < length halves = c.loop-k-test.true in
     let long : length row ≡ length halves = length-map halves (λ (h : ℕ). get_or source h 0) in
-    let node = ap (λ h. get_or source h 0) c.wide.ensures ∙ start_of source halves q.k low in (
+    let node = ap (λ h. get_or source h 0) c.from.ensures ∙ start_of source halves q.k low in (
       omega (arith, low),
-      length-set q.nodes q.k (get_or source c.wide.result 0) ∙ q.invariant.1,
+      length-set q.nodes q.k (get_or source c.from.result 0) ∙ q.invariant.1,
       (λ i. set (q.invariant.2 i) q.k (node i)) ∙ over_more row c.args.nodes.now q.k 0 (omega (arith, low, long)) (omega (arith, low, c.requires.0)),
     )
 

@@ -22,10 +22,10 @@ low : (c : Start) → c.args.corner.0 < c.requires.by_index.0
 low c = c.requires.by_index.1.inner_nodes c.args.corner.0 c.requires.corner.one
 
 pub bounds-xs-n : goal.bounds-xs-n
-bounds-xs-n c = omega (arith, low (goal.at.bounds-xs-n c).Start, c.wide-n.ensures, c.requires.by_index.1.spots.in_xs)
+bounds-xs-n c = omega (arith, low (goal.at.bounds-xs-n c).Start, c.from-n.ensures, c.requires.by_index.1.spots.in_xs)
 
 pub bounds-ys-n : goal.bounds-ys-n
-bounds-ys-n c = omega (arith, low (goal.at.bounds-ys-n c).Start, c.wide-n.ensures, c.requires.by_index.1.spots.in_ys)
+bounds-ys-n c = omega (arith, low (goal.at.bounds-ys-n c).Start, c.from-n.ensures, c.requires.by_index.1.spots.in_ys)
 
 pub ring_stands-requires : goal.ring_stands-requires
 ring_stands-requires c =
@@ -37,8 +37,8 @@ ring_stands-requires c =
       p.outer_nodes,
       p.spots,
       (
-        subst (λ z. nat_abs z ≤ coordinate_bound) (sym (entry_read c.args.xs.now c.wide-n.result n (omega arith) c.wide-n.ensures)) (p.spots.near_xs n h),
-        subst (λ z. nat_abs z ≤ coordinate_bound) (sym (entry_read c.args.ys.now c.wide-n.result n (omega arith) c.wide-n.ensures)) (p.spots.near_ys n h),
+        subst (λ z. nat_abs z ≤ coordinate_bound) (sym (entry_read c.args.xs.now c.from-n.result n (omega arith) c.from-n.ensures)) (p.spots.near_xs n h),
+        subst (λ z. nat_abs z ≤ coordinate_bound) (sym (entry_read c.args.ys.now c.from-n.result n (omega arith) c.from-n.ensures)) (p.spots.near_ys n h),
       ),
     )
 
@@ -52,8 +52,8 @@ stands c =
     let a = c.args in
     let at = spot_in a.xs.now a.ys.now in
     let outer = a.outer.now in
-    let x = entry_read a.xs.now c.wide-n.result a.corner.0 (omega arith) c.wide-n.ensures in
-    let y = entry_read a.ys.now c.wide-n.result a.corner.0 (omega arith) c.wide-n.ensures in
+    let x = entry_read a.xs.now c.from-n.result a.corner.0 (omega arith) c.from-n.ensures in
+    let y = entry_read a.ys.now c.from-n.result a.corner.0 (omega arith) c.from-n.ensures in
     sym (c.ring_stands.ensures ∙ (λ i. stands_from at (record { x = x i; y = y i }) false (last_of 0 outer) outer))
 
 -- it decides where it is not on it

@@ -9,12 +9,12 @@ use Rattle.hole_checks.specs.Checks.{HolesChecked}
 use Rattle.hole_entry.proofs.Outcome.{refused_made, done_made}
 use Rattle.hole_entry.proofs.extract_core.Goals as goal
 
-pub returns-in-Refused : goal.returns-in-Refused
-returns-in-Refused c =
+pub returns-in-Err : goal.returns-in-Err
+returns-in-Err c =
     let a = c.args in
     refused_made a.graph a.floats.now a.numbers.now a.stars.now a.marks.now a.ids.now a.room
     (lists_of a.half_edges.now a.ring_first.now a.ring_length.now a.ring_face.now a.ring_side.now a.ring_area.now)
-    c.in-Refused.why c.turned_down.result c.turned_down.ensures c.in-Refused.ensures
+    c.in-Err.why c.turned_down.result c.turned_down.ensures c.in-Err.ensures
 
 pub extract_checked-requires : goal.extract_checked-requires
 extract_checked-requires c =

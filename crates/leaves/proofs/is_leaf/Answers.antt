@@ -7,7 +7,7 @@ use Rattle.leaves.specs.Steps.{leaf}
 use Rattle.leaves.proofs.is_leaf.Goals as goal
 
 pub returns-then-nodes_degree-n-eq1 : goal.returns-then-nodes_degree-n-eq1
-returns-then-nodes_degree-n-eq1 c = sym (ap (λ b. b && not (get_or c.args.nodes_marked.now c.wide-n.result false)) (eq-eqb _ 1 c.if-nodes_degree-n-eq1.true)) ∙ (let a = c.args in ap (leaf a.nodes_degree.now a.nodes_marked.now) c.wide-n.ensures)
+returns-then-nodes_degree-n-eq1 c = sym (ap (λ b. b && not (get_or c.args.nodes_marked.now c.from-n.result false)) (eq-eqb _ 1 c.if-nodes_degree-n-eq1.true)) ∙ (let a = c.args in ap (leaf a.nodes_degree.now a.nodes_marked.now) c.from-n.ensures)
 
 pub returns : goal.returns
-returns c = sym (ap (λ b. b && not (get_or c.args.nodes_marked.now c.wide-n.result false)) (ne_eqb _ 1 c.if-nodes_degree-n-eq1.false)) ∙ (let a = c.args in ap (leaf a.nodes_degree.now a.nodes_marked.now) c.wide-n.ensures)
+returns c = sym (ap (λ b. b && not (get_or c.args.nodes_marked.now c.from-n.result false)) (ne_eqb _ 1 c.if-nodes_degree-n-eq1.false)) ∙ (let a = c.args in ap (leaf a.nodes_degree.now a.nodes_marked.now) c.from-n.ensures)

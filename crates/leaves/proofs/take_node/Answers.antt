@@ -12,15 +12,15 @@ use Rattle.leaves.proofs.Turns.{taken, taken-reached}
 use Rattle.leaves.proofs.take_node.Goals as goal
 
 pub bounds-dir_edges_marked-t : goal.bounds-dir_edges_marked-t
-bounds-dir_edges_marked-t c = simp length-set (omega (arith, (c.wide-t.ensures ∙ c.twin_of.ensures), c.requires.twin_half))
+bounds-dir_edges_marked-t c = simp length-set (omega (arith, (c.from-t.ensures ∙ c.twin_of.ensures), c.requires.twin_half))
 
 pub bounds-nodes_degree-other-2 : goal.bounds-nodes_degree-other-2
-bounds-nodes_degree-other-2 c = simp length-set (omega (arith, (c.wide-other.ensures ∙ ap (origin_in c.args.dir_edges_src.now) (c.wide-t.ensures ∙ c.twin_of.ensures)), c.requires.other))
+bounds-nodes_degree-other-2 c = simp length-set (omega (arith, (c.from-other.ensures ∙ ap (origin_in c.args.dir_edges_src.now) (c.from-t.ensures ∙ c.twin_of.ensures)), c.requires.other))
 
 pub push_leaf-stacked-requires : goal.push_leaf-stacked-requires
 push_leaf-stacked-requires c =
     let p = c.requires in
-    simp length-set (omega (arith, c.wide-other.ensures, (c.wide-other.ensures ∙ ap (origin_in c.args.dir_edges_src.now) (c.wide-t.ensures ∙ c.twin_of.ensures)), p.other, p.other_mark, p.stack_room))
+    simp length-set (omega (arith, c.from-other.ensures, (c.from-other.ensures ∙ ap (origin_in c.args.dir_edges_src.now) (c.from-t.ensures ∙ c.twin_of.ensures)), p.other, p.other_mark, p.stack_room))
 
 pub returns : goal.returns
 unfolding edge_of
@@ -36,12 +36,12 @@ returns c =
     let m = origin_in a.dir_edges_src.now (twin h) in
     let pushed = c.push_leaf-stacked in
     let after = pushed.new.stack in
-    let near = ap (origin_in a.dir_edges_src.now) (c.wide-t.ensures ∙ c.twin_of.ensures) in
+    let near = ap (origin_in a.dir_edges_src.now) (c.from-t.ensures ∙ c.twin_of.ensures) in
     let room = c.requires.list_room in
     let e : latest pushed.result after ≡ push (leaf (set (set ds n 0) m (get_or ds m 0 - 1)) (set nm n true) m) m (latest at.stacked a.stack.now) =
     pushed.ensures.0
-    ∙ (λ i. push (leaf (set (set ds ((c.wide-n.ensures) i) 0) ((c.wide-other.ensures ∙ ap (origin_in c.args.dir_edges_src.now) (c.wide-t.ensures ∙ c.twin_of.ensures)) i) (get_or ds ((c.wide-other.ensures ∙ ap (origin_in c.args.dir_edges_src.now) (c.wide-t.ensures ∙ c.twin_of.ensures)) i) 0 - 1)) (set nm ((c.wide-n.ensures) i) true) (near i)) (near i) (latest at.stacked a.stack.now)) in (
-      (λ i. tables_at (set (set ds ((c.wide-n.ensures) i) 0) ((c.wide-other.ensures ∙ ap (origin_in c.args.dir_edges_src.now) (c.wide-t.ensures ∙ c.twin_of.ensures)) i) (get_or ds ((c.wide-other.ensures ∙ ap (origin_in c.args.dir_edges_src.now) (c.wide-t.ensures ∙ c.twin_of.ensures)) i) 0 - 1)) (set nm ((c.wide-n.ensures) i) true) (set (set hm ((c.wide-h.ensures) i) true) ((c.wide-t.ensures ∙ c.twin_of.ensures) i) true) after
+    ∙ (λ i. push (leaf (set (set ds ((c.from-n.ensures) i) 0) ((c.from-other.ensures ∙ ap (origin_in c.args.dir_edges_src.now) (c.from-t.ensures ∙ c.twin_of.ensures)) i) (get_or ds ((c.from-other.ensures ∙ ap (origin_in c.args.dir_edges_src.now) (c.from-t.ensures ∙ c.twin_of.ensures)) i) 0 - 1)) (set nm ((c.from-n.ensures) i) true) (near i)) (near i) (latest at.stacked a.stack.now)) in (
+      (λ i. tables_at (set (set ds ((c.from-n.ensures) i) 0) ((c.from-other.ensures ∙ ap (origin_in c.args.dir_edges_src.now) (c.from-t.ensures ∙ c.twin_of.ensures)) i) (get_or ds ((c.from-other.ensures ∙ ap (origin_in c.args.dir_edges_src.now) (c.from-t.ensures ∙ c.twin_of.ensures)) i) 0 - 1)) (set nm ((c.from-n.ensures) i) true) (set (set hm ((c.from-h.ensures) i) true) ((c.from-t.ensures ∙ c.twin_of.ensures) i) true) after
           (set out at.found (edge_of h)) (record { stacked = pushed.result; found = at.found + 1 }))
           ∙ taken n h m pushed.result ds nm hm a.stack.now after out at room e,
       taken-reached pushed.result (edge_of h) out after at room (omega arith),

@@ -10,7 +10,7 @@ use Rattle.list_tests.proofs.goes_on.Goals as goal
 pub loop-steps-init : goal.loop-steps-init
 loop-steps-init c =
     let a = c.args in
-    (omega arith, ap (λ p. walk_from limits.pairs a.pair_ids.now a.links.now limits.pairs p a.seen.now) c.wide-at.ensures)
+    (omega arith, ap (λ p. walk_from limits.pairs a.pair_ids.now a.links.now limits.pairs p a.seen.now) c.from-at.ensures)
 
 pub returns-then-at-ge-MAX_PAIRS : goal.returns-then-at-ge-MAX_PAIRS
 returns-then-at-ge-MAX_PAIRS c =
@@ -32,7 +32,7 @@ pub returns-then-not-rises : goal.returns-then-not-rises
 returns-then-not-rises c =
     let a = c.args in
     sym (place_falls limits.pairs a.pair_ids.now a.links.now (limits.pairs - c.loop-steps.steps) ((limits.pairs - c.loop-steps.steps) - 1) c.loop-steps.at c.loop-steps.seen (omega arith)
-    c.if-at-ge-MAX_PAIRS.false c.requires.1 c.if-seen-at.false c.wide-q.result c.wide-q.ensures (λ z. c.if-next.false (sym c.wide-q.ensures ∙ z))
+    c.if-at-ge-MAX_PAIRS.false c.requires.1 c.if-seen-at.false c.from-q.result c.from-q.ensures (λ z. c.if-next.false (sym c.from-q.ensures ∙ z))
     (sym c.rises.ensures ∙ c.if-not-rises.true)) ∙ c.loop-steps.invariant.1
 
 pub loop-steps-preserved : goal.loop-steps-preserved
@@ -40,7 +40,7 @@ loop-steps-preserved c =
     let a = c.args in (
       omega arith,
       sym (place_on limits.pairs a.pair_ids.now a.links.now (limits.pairs - c.loop-steps.steps) (limits.pairs - (c.loop-steps.steps + 1)) c.loop-steps.at c.loop-steps.seen (omega arith)
-          c.if-at-ge-MAX_PAIRS.false c.requires.1 c.if-seen-at.false c.wide-q.result c.wide-q.ensures (λ z. c.if-next.false (sym c.wide-q.ensures ∙ z))
+          c.if-at-ge-MAX_PAIRS.false c.requires.1 c.if-seen-at.false c.from-q.result c.from-q.ensures (λ z. c.if-next.false (sym c.from-q.ensures ∙ z))
           (sym c.rises.ensures ∙ c.if-not-rises.false)) ∙ c.loop-steps.invariant.1,
     )
 

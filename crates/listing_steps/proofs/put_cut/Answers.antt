@@ -35,7 +35,7 @@ lines : (c : After-put_head-place) → let t = c.put_head-place in t.result + li
 lines c =
     let t = c.put_head-place in
     head_room_lem _ _ _ _ _ _ c.args.out.now t.new.out t.result
-    (omega (arith, c.printed.ensures)) (omega (arith, c.printed-2.ensures)) (omega (arith, c.printed-3.ensures)) (omega (arith, c.printed-4.ensures)) (omega (arith, c.printed-5.ensures))
+    (omega (arith, c.from.ensures)) (omega (arith, c.from-2.ensures)) (omega (arith, c.from-3.ensures)) (omega (arith, c.from-4.ensures)) (omega (arith, c.from-5.ensures))
     t.ensures c.requires.room t.auto.out
 
 pub slice_bounds-put_rings-end-6 : goal.slice_bounds-put_rings-end-6
@@ -55,7 +55,7 @@ returns c =
     let t = c.put_rings in
     let room = lines (goal.at.returns c).After-put_head-place in
     subst (λ y. Put 0 y a.out.now t.new.out t.result)
-    ((λ i. head_line (c.printed.ensures i) (c.printed-2.ensures i) (c.printed-3.ensures i) (c.printed-4.ensures i) (c.printed-5.ensures i) x.result.euler ++ lines_of s.source (rings_of s) x.result.count)
+    ((λ i. head_line (c.from.ensures i) (c.from-2.ensures i) (c.from-3.ensures i) (c.from-4.ensures i) (c.from-5.ensures i) x.result.euler ++ lines_of s.source (rings_of s) x.result.count)
     ∙ (λ i. head_line s.nodes s.edges a.dangles a.cuts (x.ensures.many i) (x.ensures.seen i) ++ lines_of s.source (rings_of s) (x.ensures.many i)))
     (put_row 0 _ _ a.out.now h.new.out t.new.out h.result t.result (omega (arith, h.ensures.after, room, h.auto.out)) h.ensures
     (t.ensures (rings_of s) x.ensures.shown x.ensures.many))

@@ -5,9 +5,8 @@ use Rattle.rules.specs.State.{State}
 use Rattle.rules.specs.Ringing.{RingLists, Ringing}
 use Rattle.rules.proofs.Going.{ring_went}
 use Rattle.tables.specs.Regions.{state_in}
-use Rattle.cycles.specs.Census.{census_of}
 use Rattle.extracting.specs.Extraction.{lists_of}
-use Rattle.ring_entry.specs.Replies.{ring_reply}
+use Rattle.ring_entry.specs.Replies.{ringing_of, ring_reply}
 use Rattle.map_steps.proofs.Steps.{unrefused, ring-room}
 use Rattle.map_rings.proofs.Extracted.{extracted-count, extracted-census, extracted-shown}
 use Rattle.map_rings.proofs.ring_map.Goals as goal
@@ -21,13 +20,12 @@ held c = let a = c.args in state_in limits a.graph a.floats.now a.numbers.now a.
 abbrev lent : Start → RingLists
 lent c = let a = c.args in lists_of a.half_edges.now a.ring_first.now a.ring_length.now a.ring_face.now a.ring_side.now a.ring_area.now
 
-pub returns-in-Rings : goal.returns-in-Rings
-returns-in-Rings c =
-    let s = held (goal.at.returns-in-Rings c).Start in
+pub returns-in-Ok : goal.returns-in-Ok
+returns-in-Ok c =
+    let s = held (goal.at.returns-in-Ok c).Start in
     let x = c.extract_without_holes-done in
-    let v = c.in-Rings in
-    let answer : Ringing = record { count = v.count; census = census_of v.census; comparisons = v.comparisons } in
-    let done = ap ring_reply v.is in
+    let answer : Ringing = ringing_of c.in-Ok.rings in
+    let done = ap ring_reply c.in-Ok.is in
     record {
       shown = extracted-shown s _ _ _ _ answer x.ensures done (x.auto.half_edges ∙ c.requires.1.half_edges_lem) (x.auto.ring_first ∙ c.requires.1.first);
       many = extracted-count s _ _ _ _ answer x.ensures done;
@@ -35,9 +33,9 @@ returns-in-Rings c =
     }
 
 -- no step refuses what is sound and in its stage
-pub returns-in-Refused : goal.returns-in-Refused
-returns-in-Refused c =
-    let k = (goal.at.returns-in-Refused c).Start in
+pub returns-in-Err : goal.returns-in-Err
+returns-in-Err c =
+    let k = (goal.at.returns-in-Err c).Start in
     absurd
     (unrefused _ _ _ _ c.extract_without_holes-done.ensures
-    (ring_went limits (held k) c.requires.0.held _ c.requires.0.here (ring-room (held k) (lent k) c.requires.0.held c.requires.1)).goes.succeeds _ (ap ring_reply c.in-Refused.is))
+    (ring_went limits (held k) c.requires.0.held _ c.requires.0.here (ring-room (held k) (lent k) c.requires.0.held c.requires.1)).goes.succeeds _ (ap ring_reply c.in-Err.is))

@@ -27,15 +27,15 @@ done : (c : Start)
     cut_step limits (held c) out ≡ left_with (success (record { count = length (cuts_of (held c)); census = census (arrangement (held c)) })) (cut_state (held c)) (over (cuts_of (held c)) out)
 done c = cut-is limits (held c) c.requires.held (replicate limits.edges 0) c.requires.here (edge-room (held c) c.requires.held)
 
-pub returns-in-Cuts : goal.returns-in-Cuts
-returns-in-Cuts c =
-    let w = goal.at.returns-in-Cuts c in
+pub returns-in-Ok : goal.returns-in-Ok
+returns-in-Ok c =
+    let w = goal.at.returns-in-Ok c in
     let s = leaves _ _ _ _ _ c.delete_cut_edges-done.ensures (done w.Start) in
-    let n = answered _ _ _ _ _ _ _ c.delete_cut_edges-done.ensures (done w.Start) refl (ap cut_reply c.in-Cuts.is) in
+    let n = answered _ _ _ _ _ _ _ c.delete_cut_edges-done.ensures (done w.Start) refl (ap cut_reply c.in-Ok.is) in
     λ i. record { state = s i; count = (n i).count }
 
 -- no step refuses what is sound and in its stage
-pub returns-in-Refused : goal.returns-in-Refused
-returns-in-Refused c =
-    let k = held (goal.at.returns-in-Refused c).Start in
-    absurd (unrefused _ _ _ _ c.delete_cut_edges-done.ensures (cut_went limits k c.requires.held _ c.requires.here (edge-room k c.requires.held)).goes.succeeds _ (ap cut_reply c.in-Refused.is))
+pub returns-in-Err : goal.returns-in-Err
+returns-in-Err c =
+    let k = held (goal.at.returns-in-Err c).Start in
+    absurd (unrefused _ _ _ _ c.delete_cut_edges-done.ensures (cut_went limits k c.requires.held _ c.requires.here (edge-room k c.requires.held)).goes.succeeds _ (ap cut_reply c.in-Err.is))

@@ -26,15 +26,15 @@ done : (c : Start)
     prune_step limits (held c) out ≡ left_with (success (length (dangles_of (held c)))) (pruned_state (held c)) (over (dangles_of (held c)) out)
 done c = prune-is limits (held c) c.requires.held (replicate limits.edges 0) c.requires.here (edge-room (held c) c.requires.held)
 
-pub returns-in-Dangles : goal.returns-in-Dangles
-returns-in-Dangles c =
-    let w = goal.at.returns-in-Dangles c in
+pub returns-in-Ok : goal.returns-in-Ok
+returns-in-Ok c =
+    let w = goal.at.returns-in-Ok c in
     let s = leaves _ _ _ _ _ c.prune_dangles-done.ensures (done w.Start) in
-    let n = answered _ _ _ _ _ _ _ c.prune_dangles-done.ensures (done w.Start) refl (ap prune_reply c.in-Dangles.is) in
+    let n = answered _ _ _ _ _ _ _ c.prune_dangles-done.ensures (done w.Start) refl (ap prune_reply c.in-Ok.is) in
     λ i. record { state = s i; count = n i }
 
 -- no step refuses what is sound and in its stage
-pub returns-in-Refused : goal.returns-in-Refused
-returns-in-Refused c =
-    let k = held (goal.at.returns-in-Refused c).Start in
-    absurd (unrefused _ _ _ _ c.prune_dangles-done.ensures (prune_went limits k c.requires.held _ c.requires.here (edge-room k c.requires.held)).goes.succeeds _ (ap prune_reply c.in-Refused.is))
+pub returns-in-Err : goal.returns-in-Err
+returns-in-Err c =
+    let k = held (goal.at.returns-in-Err c).Start in
+    absurd (unrefused _ _ _ _ c.prune_dangles-done.ensures (prune_went limits k c.requires.held _ c.requires.here (edge-room k c.requires.held)).goes.succeeds _ (ap prune_reply c.in-Err.is))

@@ -1,37 +1,17 @@
-use Prim.Native.Nat.{ℕ}
-use mathlib.Core.List.{List}
-use native.Mathlib.Numerals.{add-one}
-use mathlib.Core.Path.{◌≡◌, refl, ap, ◌∙◌}
-use Prim.Native.Nat.{◌+◌, ◌<◌}
+-- `put_text` meets its contract: the text stands where it was copied to.
 use native.Mathlib.Omega.{arith}
-use lib.ListN.{length, get_or, set, length-set}
-use lib.Seq.{paste, paste-zero, paste-suc}
+use mathlib.Core.Path.{◌≡◌, refl, ◌∙◌}
+use Prim.Native.Nat.{◌+◌, ◌-◌}
+use lib.ListN.{length}
+use Rattle.std.proofs.lemmas.Slice.{put_mid-paste}
 use Rattle.lists.proofs.Buffers.{paste_all}
 use Rattle.number_text.proofs.put_text.Goals as goal
-
-pub loop-i-init : goal.loop-i-init
-loop-i-init c =
-    let a = c.args in
-    (omega arith, refl, paste-zero a.out.now a.at a.text.now)
-
-pub loop-i-preserved : goal.loop-i-preserved
-loop-i-preserved c =
-    let a = c.args in
-    let q = c.loop-i in
-    let h : a.at + q.i < length a.out.now = omega arith in
-    let l : q.i < length a.text.now = omega arith in (
-      omega arith,
-      rw length-set q.invariant.1,
-      rw (add-one q.i)
-          (ap (λ (l : List ℕ). set l (a.at + q.i) (get_or a.text.now q.i 0)) q.invariant.2 ∙ paste-suc a.out.now a.at a.text.now q.i 0 h l),
-    )
 
 pub returns : goal.returns
 returns c =
     let a = c.args in
-    let q = c.loop-i in
-    let e : q.i ≡ length a.text.now = omega arith in
+    let size : length a.text.now ≡ a.at + length a.text.now - a.at = omega arith in
     record {
-      buffer = q.invariant.2 ∙ ap (paste a.out.now a.at a.text.now) e ∙ paste_all a.out.now a.at a.text.now;
-      after = ap (λ (n : ℕ). a.at + n) e;
+      buffer = put_mid-paste a.at _ a.out.now _ a.text.now (length a.text.now) c.copy_from_slice.ensures.after size refl ∙ paste_all a.out.now a.at a.text.now;
+      after = refl;
     }

@@ -16,15 +16,15 @@ returns c =
     let numbers = c.args.numbers.now in
     let links = links_in limits numbers in
     let place = c.args.place in
-    let w = c.wide-at in
+    let w = c.from-at in
     let b = w.result in
-    let p = c.wide.result in
+    let p = c.from.result in
     let n = get_or numbers (5 * limits.edges + b) 0 in
     let one = set numbers (5 * limits.edges + p) n in record {
       source = linked_sources limits one b place ∙ linked_sources limits numbers p n;
       target = linked_targets limits one b place ∙ linked_targets limits numbers p n;
       list = linked_places limits one b place ∙ linked_places limits numbers p n;
       link = linked limits one b place ∙ ap (λ t. set t b place) (linked limits numbers p n)
-          ∙ ap₂ (λ e f. set (set links e (get_or numbers (5 * limits.edges + f) 0)) f place) c.wide.ensures w.ensures
+          ∙ ap₂ (λ e f. set (set links e (get_or numbers (5 * limits.edges + f) 0)) f place) c.from.ensures w.ensures
           ∙ ap (λ m. set (set links place m) c.args.behind place) (link_read limits numbers c.requires.2 c.args.behind c.requires.0);
     }

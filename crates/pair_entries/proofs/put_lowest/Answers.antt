@@ -16,9 +16,9 @@ returns c =
     let ids = c.args.ids.now in
     let id = c.args.id in
     let n = limits.edges in
-    let at = c.wide-line.result in
-    let p = c.wide-pair.result in
-    let few : at < n = omega (arith, c.requires.0, c.wide-line.ensures) in record {
-      line = take-set-le n (set ids at id) (n + p) id (omega arith) ∙ take-set-lt n ids at id few ∙ ap (λ e. set (line_ids_in limits ids) e id) c.wide-line.ensures;
-      pair = drop-set-add n (set ids at id) p id ∙ ap (λ t. set t p id) (drop-set-lt n ids at id few) ∙ ap (λ e. set (pair_ids_in limits ids) e id) c.wide-pair.ensures;
+    let at = c.from-line.result in
+    let p = c.from-pair.result in
+    let few : at < n = omega (arith, c.requires.0, c.from-line.ensures) in record {
+      line = take-set-le n (set ids at id) (n + p) id (omega arith) ∙ take-set-lt n ids at id few ∙ ap (λ e. set (line_ids_in limits ids) e id) c.from-line.ensures;
+      pair = drop-set-add n (set ids at id) p id ∙ ap (λ t. set t p id) (drop-set-lt n ids at id few) ∙ ap (λ e. set (pair_ids_in limits ids) e id) c.from-pair.ensures;
     }

@@ -10,6 +10,6 @@ returns c =
     let a = c.args in
     let n = limits.edges in
     record {
-      line = rw c.wide.ensures (take-set-le n a.ids.now (n + a.place) a.id (omega arith));
-      pair = rw c.wide.ensures (drop-set-add n a.ids.now a.place a.id);
+      line = rw c.from.ensures (take-set-le n a.ids.now (n + a.place) a.id (omega arith));
+      pair = rw c.from.ensures (drop-set-add n a.ids.now a.place a.id);
     }

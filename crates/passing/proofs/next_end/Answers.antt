@@ -18,9 +18,9 @@ returns-then-number_at-x c =
     let d = c.number_at in
     let short : lt_z (number_in a.numbers.now a.order.now a.k 1) a.x ≡ true =
     sym (compared d.result a.x (record { sfits = d.type_inv }) c.ranges.x ∙ ap (λ z. lt_z z a.x) d.ensures) ∙ c.if-number_at-x.true in (
-      omega (arith, c.wide.ensures, c.requires.1.back a.k c.requires.3),
-      ends-before a.numbers.now a.order.now a.x c.wide.result a.k
-          (subst (λ v. Within a.numbers.now a.order.now v a.k) (sym c.wide.ensures) (c.requires.1.within a.k c.requires.3)) short,
+      omega (arith, c.from.ensures, c.requires.1.back a.k c.requires.3),
+      ends-before a.numbers.now a.order.now a.x c.from.result a.k
+          (subst (λ v. Within a.numbers.now a.order.now v a.k) (sym c.from.ensures) (c.requires.1.within a.k c.requires.3)) short,
     )
 
 pub returns : goal.returns

@@ -30,9 +30,9 @@ loop-from-preserved c =
     let other = c.number_at in
     let short : lt_z (number_in a.numbers.now a.order.now a.k 1) (number_in a.numbers.now a.order.now last 1) ≡ false =
     sym (compared mine.result other.result (record { sfits = mine.type_inv }) (record { sfits = other.type_inv }) ∙ ap₂ lt_z mine.ensures other.ensures) ∙ c.if-right-number_at.false in (
-      omega (arith, q.invariant.0, c.wide-from.ensures, c.requires.3.back last (omega (arith, c.loop-from-test.true, c.loop-from.invariant.0))),
-      within-back a.numbers.now a.order.now a.k q.from last (omega (arith, c.loop-from-test.true)) short c.wide-from.result
-          (subst (λ v. Within a.numbers.now a.order.now v last) (sym c.wide-from.ensures) (c.requires.3.within last (omega (arith, c.loop-from-test.true, c.loop-from.invariant.0)))) q.invariant.1,
+      omega (arith, q.invariant.0, c.from-from.ensures, c.requires.3.back last (omega (arith, c.loop-from-test.true, c.loop-from.invariant.0))),
+      within-back a.numbers.now a.order.now a.k q.from last (omega (arith, c.loop-from-test.true)) short c.from-from.result
+          (subst (λ v. Within a.numbers.now a.order.now v last) (sym c.from-from.ensures) (c.requires.3.within last (omega (arith, c.loop-from-test.true, c.loop-from.invariant.0)))) q.invariant.1,
     )
 
 pub returns : goal.returns

@@ -11,11 +11,11 @@ pub mark_used-requires : goal.mark_used-requires
 mark_used-requires c =
     let numbers = c.args.numbers.now in
     let places = list_places_in limits numbers in
-    subst (λ n. Ending limits.pairs places n c.wide.result) (sym (tail-is (5 * limits.edges) numbers))
-    (subst (λ e. Ending limits.pairs places (links_in limits numbers) e) (sym c.wide.ensures) c.requires.1)
+    subst (λ n. Ending limits.pairs places n c.from.result) (sym (tail-is (5 * limits.edges) numbers))
+    (subst (λ e. Ending limits.pairs places (links_in limits numbers) e) (sym c.from.ensures) c.requires.1)
 
 pub returns : goal.returns
 returns c =
     let numbers = c.args.numbers.now in
     c.mark_used.ensures
-    ∙ (λ i. used_marks limits.pairs (list_places_in limits numbers) (tail-is (5 * limits.edges) numbers i) (c.wide.ensures i))
+    ∙ (λ i. used_marks limits.pairs (list_places_in limits numbers) (tail-is (5 * limits.edges) numbers i) (c.from.ensures i))

@@ -23,9 +23,9 @@ pub take_node-requires : goal.take_node-requires
 take_node-requires c =
     let a = c.args in
     let p = c.requires in
-    let one : get_or a.nodes_degree.now (top_of a.stack.now a.at) 0 ≡ 1 = ap (λ i. get_or a.nodes_degree.now i 0) (sym c.wide-n.ensures) ∙ c.if-nodes_degree-n-ne1.false in
-    let found = found-is a.offsets.now a.grouped.now a.dir_edges_marked.now (top_of a.stack.now a.at) c.wide-n.result c.wide.result c.wide-2.result c.first_active-half.result.0
-    c.wide-n.ensures c.wide.ensures c.wide-2.ensures c.first_active-half.ensures in
+    let one : get_or a.nodes_degree.now (top_of a.stack.now a.at) 0 ≡ 1 = ap (λ i. get_or a.nodes_degree.now i 0) (sym c.from-n.ensures) ∙ c.if-nodes_degree-n-ne1.false in
+    let found = found-is a.offsets.now a.grouped.now a.dir_edges_marked.now (top_of a.stack.now a.at) c.from-n.result c.from.result c.from-2.result c.first_active-half.result.0
+    c.from-n.ensures c.from.ensures c.from-2.ensures c.first_active-half.ensures in
     takeable p.nodes p.edges a.offsets.now a.grouped.now a.dir_edges_src.now a.nodes_degree.now a.nodes_marked.now a.dir_edges_marked.now
     p.starred p.counted (top_of a.stack.now a.at) p.node c.first_active-half.result.0 a.stack.now a.out.now _ one found (omega (arith, p.some, p.stack_room)) (p.list_room one)
 
@@ -33,9 +33,9 @@ pub returns : goal.returns
 returns c =
     let a = c.args in
     let p = c.requires in
-    let one : get_or a.nodes_degree.now (top_of a.stack.now a.at) 0 ≡ 1 = ap (λ i. get_or a.nodes_degree.now i 0) (sym c.wide-n.ensures) ∙ c.if-nodes_degree-n-ne1.false in
-    let found = found-is a.offsets.now a.grouped.now a.dir_edges_marked.now (top_of a.stack.now a.at) c.wide-n.result c.wide.result c.wide-2.result c.first_active-half.result.0
-    c.wide-n.ensures c.wide.ensures c.wide-2.ensures c.first_active-half.ensures in (
+    let one : get_or a.nodes_degree.now (top_of a.stack.now a.at) 0 ≡ 1 = ap (λ i. get_or a.nodes_degree.now i 0) (sym c.from-n.ensures) ∙ c.if-nodes_degree-n-ne1.false in
+    let found = found-is a.offsets.now a.grouped.now a.dir_edges_marked.now (top_of a.stack.now a.at) c.from-n.result c.from.result c.from-2.result c.first_active-half.result.0
+    c.from-n.ensures c.from.ensures c.from-2.ensures c.first_active-half.ensures in (
       c.take_node.ensures.0
           ∙ takes (group_of a.offsets.now a.grouped.now) (origin_in a.dir_edges_src.now) a.nodes_degree.now a.nodes_marked.now a.dir_edges_marked.now
           a.stack.now a.out.now a.at p.some p.stack_room c.first_active-half.result.0 one found,

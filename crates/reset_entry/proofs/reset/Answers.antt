@@ -11,8 +11,8 @@ use Rattle.calls.proofs.Shells.{check_passed}
 use Rattle.reset_entry.proofs.Shell.{reset_stops}
 use Rattle.reset_entry.proofs.reset.Goals as goal
 
-pub returns-in-Refused : goal.returns-in-Refused
-returns-in-Refused c = reset_stops limits (state_in limits c.args.graph c.args.floats.now c.args.numbers.now c.args.stars.now c.args.marks.now c.args.ids.now) _ (sym c.in-Refused.is ∙ c.check_sound-checked.ensures)
+pub returns-in-Err : goal.returns-in-Err
+returns-in-Err c = reset_stops limits (state_in limits c.args.graph c.args.floats.now c.args.numbers.now c.args.stars.now c.args.marks.now c.args.ids.now) _ (sym c.in-Err.is ∙ c.check_sound-checked.ensures)
 
 pub reset_regions-done-requires : goal.reset_regions-done-requires
 reset_regions-done-requires c =

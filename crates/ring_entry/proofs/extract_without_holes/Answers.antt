@@ -9,8 +9,8 @@ use Rattle.extracting.proofs.Outcome.{long-room, extraction-is-outcome}
 use Rattle.ring_checks.specs.Checks.{RingChecked}
 use Rattle.ring_entry.proofs.extract_without_holes.Goals as goal
 
-pub returns-in-Refused : goal.returns-in-Refused
-returns-in-Refused c = subst (RingChecked (state_in limits c.args.graph c.args.floats.now c.args.numbers.now c.args.stars.now c.args.marks.now c.args.ids.now) (lists_of c.args.half_edges.now c.args.ring_first.now c.args.ring_length.now c.args.ring_face.now c.args.ring_side.now c.args.ring_area.now)) c.in-Refused.is c.check_rings-checked.ensures
+pub returns-in-Err : goal.returns-in-Err
+returns-in-Err c = subst (RingChecked (state_in limits c.args.graph c.args.floats.now c.args.numbers.now c.args.stars.now c.args.marks.now c.args.ids.now) (lists_of c.args.half_edges.now c.args.ring_first.now c.args.ring_length.now c.args.ring_face.now c.args.ring_side.now c.args.ring_area.now)) c.in-Err.is c.check_rings-checked.ensures
 
 pub extract_regions-done-requires : goal.extract_regions-done-requires
 extract_regions-done-requires c =

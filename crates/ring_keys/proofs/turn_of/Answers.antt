@@ -6,8 +6,10 @@ use mathlib.Core.Path.{◌≡◌, sym, ap, ◌∙◌}
 use mathlib.Core.List.{List}
 use lib.ListN.{length, take, drop}
 use borrow.Author.Tests.{eq-eqb}
-use Rattle.rotation.specs.declared.RotationStart.{RotationStart}
-use Rattle.rotation.specs.declared.RotationStart.TheVariants.{At, LengthsDiffer}
+use Rattle.std.specs.declared.result.Result.{Result}
+use Rattle.std.specs.declared.result.Result.TheVariants.{Ok, Err}
+use Rattle.rotation.specs.declared.Rotation.{Rotation}
+use Rattle.rotation.specs.declared.LengthsDiffer.{LengthsDiffer}
 use Rattle.rotation.specs.Rotation.{keys_of, least_rotation_lem}
 use Rattle.rotation.specs.Steps.{comparisons}
 use Rattle.rotation.specs.Answers.{start_at, rotation_start}
@@ -19,9 +21,9 @@ use Rattle.ring_keys.proofs.KeyLists.{keys-within, keys-part, length_part}
 use Rattle.ring_keys.proofs.turn_of.Goals as goal
 
 -- what was found
-abbrev search-in : RotationStart → Search
-search-in (At i n) = record { turn = i; comparisons = n }
-search-in LengthsDiffer = record { turn = 0; comparisons = 0 }
+abbrev search-in : Result Rotation LengthsDiffer → Search
+search-in (Ok r) = record { turn = r.start; comparisons = r.comparisons }
+search-in (Err e) = record { turn = 0; comparisons = 0 }
 
 -- of two lists of one length it is where the least rotation starts, and the comparisons
 search_is : (xs ys : List ℕ) → length xs ≡ length ys → search-in (rotation_start xs ys) ≡ search_of (keys_of xs ys)
@@ -34,7 +36,7 @@ overflow_cast-turn c =
     let n = length_part c.args.first c.args.size (keys_of c.args.xs.now c.args.ys.now) c.requires.2 in
     omega (
       arith,
-      ap (λ r. (search-in r).turn) c.in-At.is,
+      ap (λ r. (search-in r).turn) c.in-Ok.is,
       ap (λ q. q.turn) (let a = c.args in
           let w = keys-within a.xs.now a.ys.now in
           let e : a.first + a.size - a.first ≡ a.size = omega arith in
@@ -50,9 +52,9 @@ overflow_cast-turn c =
       (least-rotation P (omega arith)).within,
     )
 
-pub returns-in-At : goal.returns-in-At
-returns-in-At c =
-    sym (ap search-in c.in-At.is) ∙ (let a = c.args in
+pub returns-in-Ok : goal.returns-in-Ok
+returns-in-Ok c =
+    sym (ap search-in c.in-Ok.is) ∙ (let a = c.args in
     let w = keys-within a.xs.now a.ys.now in
     let e : a.first + a.size - a.first ≡ a.size = omega arith in
     let X : List ℕ = part_of a.first a.size a.xs.now in
@@ -64,9 +66,9 @@ returns-in-At c =
     ∙ search_is X Y same
     ∙ ap search_of (keys-part a.first a.size a.xs.now a.ys.now))
 
-pub returns-in-LengthsDiffer : goal.returns-in-LengthsDiffer
-returns-in-LengthsDiffer c =
-    sym (ap search-in c.in-LengthsDiffer.is) ∙ (let a = c.args in
+pub returns-in-Err : goal.returns-in-Err
+returns-in-Err c =
+    sym (ap search-in c.in-Err.is) ∙ (let a = c.args in
     let w = keys-within a.xs.now a.ys.now in
     let e : a.first + a.size - a.first ≡ a.size = omega arith in
     let X : List ℕ = part_of a.first a.size a.xs.now in

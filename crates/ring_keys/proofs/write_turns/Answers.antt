@@ -21,7 +21,7 @@ pub turn_of-found-requires : goal.turn_of-found-requires
 turn_of-found-requires c =
     let i = c.loop-i.i in
     let r = c.requires.by_index i (omega arith) in
-    omega (arith, c.wide-first.ensures, c.wide-size.ensures, c.type_inv.lengths i)
+    omega (arith, c.from-first.ensures, c.from-size.ensures, c.type_inv.lengths i)
 
 -- the comparisons of a ring are few
 steps-few : (keys : List Key) (first size n : ℕ) → first + size ≤ length keys → size < 65536 → n ≡ comparisons (part_of first size keys) → n ≤ 3 * 65536
@@ -34,9 +34,9 @@ overflow_add-made c =
       arith,
       c.loop-i.invariant.4,
       c.requires.count_bound,
-      steps-few (keys_of c.args.xs.now c.args.ys.now) c.wide-first.result c.wide-size.result _
-          (omega (arith, c.requires.by_index i (omega arith), c.wide-first.ensures, c.wide-size.ensures))
-          (omega (arith, c.wide-size.ensures, c.type_inv.lengths i)) (ap (λ k. k.comparisons) c.turn_of-found.ensures),
+      steps-few (keys_of c.args.xs.now c.args.ys.now) c.from-first.result c.from-size.result _
+          (omega (arith, c.requires.by_index i (omega arith), c.from-first.ensures, c.from-size.ensures))
+          (omega (arith, c.from-size.ensures, c.type_inv.lengths i)) (ap (λ k. k.comparisons) c.turn_of-found.ensures),
     )
 
 -- the comparisons of a ring are those that its search made
@@ -60,11 +60,11 @@ loop-i-preserved c =
     let row = map (turn_of keys a.firsts.now a.lengths.now) (upto a.count) in
     let n : length row ≡ a.count = length-map (upto a.count) (turn_of keys a.firsts.now a.lengths.now) ∙ length-upto a.count in
     let few : c.turn_of-found.result.comparisons ≤ 3 * 65536 =
-    steps-few keys c.wide-first.result c.wide-size.result _ (omega (arith, c.requires.by_index q.i (omega arith), c.wide-first.ensures, c.wide-size.ensures))
-    (omega (arith, c.wide-size.ensures, c.type_inv.lengths q.i)) (ap (λ k. k.comparisons) c.turn_of-found.ensures) in
-    let steps = steps-are keys a.firsts.now a.lengths.now q.i c.wide-first.result c.wide-size.result _ c.wide-first.ensures c.wide-size.ensures
+    steps-few keys c.from-first.result c.from-size.result _ (omega (arith, c.requires.by_index q.i (omega arith), c.from-first.ensures, c.from-size.ensures))
+    (omega (arith, c.from-size.ensures, c.type_inv.lengths q.i)) (ap (λ k. k.comparisons) c.turn_of-found.ensures) in
+    let steps = steps-are keys a.firsts.now a.lengths.now q.i c.from-first.result c.from-size.result _ c.from-first.ensures c.from-size.ensures
     (ap (λ k. k.comparisons) c.turn_of-found.ensures) in
-    let turn = turn_is keys a.firsts.now a.lengths.now a.count q.i c.wide-first.result c.wide-size.result _ (omega arith) c.wide-first.ensures c.wide-size.ensures
+    let turn = turn_is keys a.firsts.now a.lengths.now a.count q.i c.from-first.result c.from-size.result _ (omega arith) c.from-first.ensures c.from-size.ensures
     (ap (λ k. k.turn) c.turn_of-found.ensures) in (
       over_more row a.turns.now (omega (arith, n, c.requires.count_bound)) q.turns q.i c.turn_of-found.result.turn (omega (arith, n)) q.invariant.0 turn,
       length-set q.turns q.i _ ∙ q.invariant.1,

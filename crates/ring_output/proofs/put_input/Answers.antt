@@ -15,14 +15,14 @@ pub read_segments-read-requires : goal.read_segments-read-requires
 unfolding of_bits
 read_segments-read-requires g c = let e = c.empty_graph.ensures in subst (Ready limits) (sym (ap blank e ∙ blank_empty)) empty_ready
 
-pub put_taken-requires : goal.put_taken-requires
+pub put_taken-output-requires : goal.put_taken-output-requires
 unfolding of_bits
-put_taken-requires g c = (ready_stands _ (subst (λ t. Ready limits t.state) (sym (c.read_segments-read.ensures.took ∙ ap (take_file_lem limits (c.read_segments-read.ensures.bytes)) (ap blank c.empty_graph.ensures ∙ blank_empty))) (file_ready (c.read_segments-read.ensures.bytes) (empty_graph_lem limits) empty_ready)), c.requires)
+put_taken-output-requires g c = (ready_stands _ (subst (λ t. Ready limits t.state) (sym (c.read_segments-read.ensures.took ∙ ap (take_file_lem limits (c.read_segments-read.ensures.bytes)) (ap blank c.empty_graph.ensures ∙ blank_empty))) (file_ready (c.read_segments-read.ensures.bytes) (empty_graph_lem limits) empty_ready)), c.requires)
 
 pub returns : goal.returns
 unfolding of_bits
 returns g c =
-    let t = c.put_taken in
+    let t = c.put_taken-output in
     let x = take_file_lem limits (c.read_segments-read.ensures.bytes) (empty_graph_lem limits) in
     let p = subst (λ y. TellsTaken y t.result c.args.out.now t.new.out) (c.read_segments-read.ensures.took ∙ ap (take_file_lem limits (c.read_segments-read.ensures.bytes)) (ap blank c.empty_graph.ensures ∙ blank_empty)) t.ensures in
     record {

@@ -4,8 +4,8 @@ use lib.ListN.{length}
 use Rattle.ring_reading.proofs.Progress.{Surveying}
 use Rattle.ring_reading.proofs.survey_file.Given as goal
 
-abbrev pub invariant-loop-count : goal.invariant-loop-count
-invariant-loop-count l = Surveying l.bytes l.at l.rings l.nodes
+abbrev pub invariant-loop-found : goal.invariant-loop-found
+invariant-loop-found l = Surveying l.bytes l.at l.rings l.nodes
 
-abbrev pub decreases-loop-count : goal.decreases-loop-count
-decreases-loop-count l = length l.bytes - l.at
+abbrev pub decreases-loop-found : goal.decreases-loop-found
+decreases-loop-found l = length l.bytes - l.at

@@ -22,24 +22,24 @@ count_at bytes at n e = ap (λ (l : List ℕ). little_endian (take 2 l)) (drop-d
 pub overflow_add-at : goal.overflow_add-at
 overflow_add-at c = let a = c.args in omega (arith, room a.bytes.now a.at a.size c.requires)
 
-pub le16-count-requires : goal.le16-count-requires
-le16-count-requires c = let a = c.args in omega (arith, room a.bytes.now a.at a.size c.requires)
+pub le16-requires : goal.le16-requires
+le16-requires c = let a = c.args in omega (arith, room a.bytes.now a.at a.size c.requires)
 
 pub returns-then-count-eq0 : goal.returns-then-count-eq0
 returns-then-count-eq0 c =
     let a = c.args in
-    sym (ring-none (drop a.at a.bytes.now) a.size c.requires (count_at a.bytes.now a.at _ c.le16-count.ensures ∙ omega arith))
+    sym (ring-none (drop a.at a.bytes.now) a.size c.requires (count_at a.bytes.now a.at _ (c.from-count.ensures ∙ c.le16.ensures) ∙ omega arith))
 
 pub returns-then-size-count : goal.returns-then-size-count
 returns-then-size-count c =
     let a = c.args in
-    let n = c.le16-count.result in
+    let n = c.from-count.result in
     let d : a.size ≡ 18 + 2 * n → ⊥ = λ e. omega arith in
-    sym (ring-other (drop a.at a.bytes.now) a.size c.requires n (count_at a.bytes.now a.at n c.le16-count.ensures) d)
+    sym (ring-other (drop a.at a.bytes.now) a.size c.requires n (count_at a.bytes.now a.at n (c.from-count.ensures ∙ c.le16.ensures)) d)
 
 pub returns : goal.returns
 returns c =
     let a = c.args in
-    let n = c.le16-count.result in
+    let n = c.from-count.result in
     let some : n ≡ 0 → ⊥ = λ e. omega arith in
-    sym (ring-taken (drop a.at a.bytes.now) a.size c.requires n (count_at a.bytes.now a.at n c.le16-count.ensures) some (omega arith))
+    sym (ring-taken (drop a.at a.bytes.now) a.size c.requires n (count_at a.bytes.now a.at n (c.from-count.ensures ∙ c.le16.ensures)) some (omega arith))

@@ -13,8 +13,8 @@ loop-i-preserved c =
     let q = c.loop-i in
     let a = c.args in (
       omega arith,
-      length-set q.to q.i c.wide.result ∙ q.invariant.1,
-      (λ j. set (q.invariant.2 j) q.i (c.wide.ensures j)) ∙ over_more a.from.now a.to.now q.i 0 (omega arith) (omega arith),
+      length-set q.to q.i c.from.result ∙ q.invariant.1,
+      (λ j. set (q.invariant.2 j) q.i (c.from.ensures j)) ∙ over_more a.from.now a.to.now q.i 0 (omega arith) (omega arith),
     )
 
 pub returns : goal.returns

@@ -1,16 +1,12 @@
 use Rattle.rotation.proofs.Candidates.{past_is}
-use Prim.Native.Nat.{◌-◌}
 use Prim.Native.Nat.{◌+◌, ◌%◌, ◌<◌}
 use native.Mathlib.Omega.{arith}
 use native.Mathlib.Nat.{mod-lt}
-use borrow.Author.Tests.{ltb-false}
 use mathlib.Core.Path.{◌≡◌, sym, ap, ◌∙◌}
-use mathlib.Core.Logic.{⊎_elim}
 use mathlib.Core.Bool.{true}
 use lib.ListN.{length}
 use Rattle.lists.proofs.Counts.{by_test}
-use Rattle.rotation.specs.declared.KeyOrder.TheVariants.{Less, Equal, Greater}
-use Rattle.rotation.specs.declared.RotationStart.TheVariants.{At}
+use Rattle.std.specs.declared.cmp.Ordering.TheVariants.{Less, Equal, Greater}
 use Rattle.rotation.specs.Rotation.{keys_of, key_at}
 use Rattle.rotation.specs.Steps.{Search, goes_on_lem}
 use Rattle.rotation.proofs.Keys.{length-keys, order-along}
@@ -22,7 +18,7 @@ use Rattle.rotation.proofs.rotation_index.Goals.{then-loop-left-test+then-right-
 pub returns-then-n-lt2 : goal.returns-then-n-lt2
 returns-then-n-lt2 c =
     let h : length (keys_of c.args.xs.now c.args.ys.now) < 2 = omega (arith, (length-keys c.args.xs.now c.args.ys.now c.requires)) in
-    λ i. At (sym (least-short (keys_of c.args.xs.now c.args.ys.now) h) i) (sym (no_comparisons (keys_of c.args.xs.now c.args.ys.now) h) i)
+    λ i. record { start = sym (least-short (keys_of c.args.xs.now c.args.ys.now) h) i; comparisons = sym (no_comparisons (keys_of c.args.xs.now c.args.ys.now) h) i }
 
 pub loop-left-init : goal.loop-left-init
 loop-left-init c = underway_start (keys_of c.args.xs.now c.args.ys.now) (omega (arith, (length-keys c.args.xs.now c.args.ys.now c.requires)))
@@ -81,7 +77,7 @@ returns c =
       | else-loop-left-test w ↦ omega (arith, w.loop-left-test.false)
     ] in
     let r = search_found ks last q.invariant (by_test (goes_on_lem (length ks) last) (λ t. absurd (stop t)) (λ t. t)) in
-    λ i. At ((c.lesser.ensures ∙ r.0) i) (r.1 i)
+    λ i. record { start = (c.min.ensures ∙ r.0) i; comparisons = r.1 i }
 
 pub loop-left-smaller-in-Less : goal.loop-left-smaller-in-Less
 loop-left-smaller-in-Less c = omega (arith, (let it : let q = c.loop-left in let n = length c.args.xs.now in (q.left < n) × (q.right < n) × (q.offset < n) = (c.loop-left-test.true, c.if-right-n.true, c.if-offset-n.true) in it), (past_is _ _ _ _ c.past-right.ensures).behind)

@@ -6,8 +6,8 @@ use Rattle.searching.proofs.has_key.Goals as goal
 
 pub returns-then-canonical_coordinate_bits-bits_x : goal.returns-then-canonical_coordinate_bits-bits_x
 unfolding key_of
-returns-then-canonical_coordinate_bits-bits_x c = rw (sym c.wide-n.ensures, sym c.canonical_coordinate_bits.ensures, sym c.canonical_coordinate_bits-then-canonical_coordinate_bits-bits_x.ensures, eq-eqb _ _ c.if-canonical_coordinate_bits-bits_x.true)
+returns-then-canonical_coordinate_bits-bits_x c = rw (sym c.from-n.ensures, sym c.canonical_coordinate_bits.ensures, sym c.canonical_coordinate_bits-then-canonical_coordinate_bits-bits_x.ensures, eq-eqb _ _ c.if-canonical_coordinate_bits-bits_x.true)
 
 pub returns-else-canonical_coordinate_bits-bits_x : goal.returns-else-canonical_coordinate_bits-bits_x
 unfolding key_of
-returns-else-canonical_coordinate_bits-bits_x c = rw (sym c.wide-n.ensures, sym c.canonical_coordinate_bits.ensures, ne_eqb _ _ c.if-canonical_coordinate_bits-bits_x.false)
+returns-else-canonical_coordinate_bits-bits_x c = rw (sym c.from-n.ensures, sym c.canonical_coordinate_bits.ensures, ne_eqb _ _ c.if-canonical_coordinate_bits-bits_x.false)

@@ -4,4 +4,4 @@ use lib.ListN.{get_or}
 use Rattle.seeds.proofs.end_of.Goals as goal
 
 pub returns : goal.returns
-returns c = ap (λ i. get_or c.args.dir_edges_src.now i 0) (c.wide-t.ensures ∙ c.twin_of.ensures)
+returns c = ap (λ i. get_or c.args.dir_edges_src.now i 0) (c.from-t.ensures ∙ c.twin_of.ensures)

@@ -11,8 +11,8 @@ use Rattle.calls.proofs.Shells.{stage-passed}
 use Rattle.sort_entry.proofs.Shell.{sort_stops}
 use Rattle.sort_entry.proofs.sort_edges.Goals as goal
 
-pub returns-in-Refused : goal.returns-in-Refused
-returns-in-Refused c = sort_stops limits (state_in limits c.args.graph c.args.floats.now c.args.numbers.now c.args.stars.now c.args.marks.now c.args.ids.now) _ (sym c.in-Refused.is ∙ c.check_stage-checked.ensures)
+pub returns-in-Err : goal.returns-in-Err
+returns-in-Err c = sort_stops limits (state_in limits c.args.graph c.args.floats.now c.args.numbers.now c.args.stars.now c.args.marks.now c.args.ids.now) _ (sym c.in-Err.is ∙ c.check_stage-checked.ensures)
 
 pub sort_region-done-requires : goal.sort_region-done-requires
 sort_region-done-requires c =

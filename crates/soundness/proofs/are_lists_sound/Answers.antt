@@ -15,4 +15,4 @@ returns c =
     c.lists_sound.ensures
     ∙ (λ i. sound_lists limits.pairs
     (record { place = list_places_in limits numbers; id = tail-is limits.edges ids i; next = tail-is (5 * limits.edges) numbers i })
-    (line_ids_in limits ids) (c.wide.ensures i))
+    (line_ids_in limits ids) (c.from.ensures i))

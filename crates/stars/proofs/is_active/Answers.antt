@@ -10,5 +10,5 @@ use Rattle.stars.proofs.is_active.Goals as goal
 
 pub returns : goal.returns
 returns c =
-    let e : c.wide.result ≡ c.args.half.0 = c.wide.ensures in
-    ap not (get_d_any c.args.dir_edges_marked.now c.wide.result false true (omega (arith, c.requires)) ∙ ap (λ i. get_or c.args.dir_edges_marked.now i true) e)
+    let e : c.from.result ≡ c.args.half.0 = c.from.ensures in
+    ap not (get_d_any c.args.dir_edges_marked.now c.from.result false true (omega (arith, c.requires)) ∙ ap (λ i. get_or c.args.dir_edges_marked.now i true) e)

@@ -16,8 +16,8 @@ returns c =
     let f = 2 * a.edge.0 in
     let u = a.u.0 in
     let v = a.v.0 in
-    let first = c.put_halves.ensures ∙ ap (λ k. two_at a.numbers.now (2 * k) u v) c.wide-first.ensures in
-    let second = c.put_halves-2.ensures ∙ (λ i. two_at (first i) (n + 2 * c.wide-first.ensures i) v u) in
+    let first = c.put_halves.ensures ∙ ap (λ k. two_at a.numbers.now (2 * k) u v) c.from-first.ensures in
+    let second = c.put_halves-2.ensures ∙ (λ i. two_at (first i) (n + 2 * c.from-first.ensures i) v u) in
     let low : f + 1 < n = omega (arith, c.requires) in
     let behind : (m : ℕ) → 2 * n ≤ m → drop m (two_at (two_at a.numbers.now f u v) (n + f) v u) ≡ drop m a.numbers.now =
     λ m h. front_two_rest m (two_at a.numbers.now f u v) (n + f) v u (omega arith) ∙ front_two_rest m a.numbers.now f u v (omega arith) in record {

@@ -22,12 +22,12 @@ listed stars new k at few e put =
 
 pub raise-requires : goal.raise-requires
 raise-requires c =
-    let put = listed c.args.stars.now c.put_halves.new.entries c.args.edge.0 c.wide.result c.requires.few c.wide.ensures c.put_halves.ensures in
+    let put = listed c.args.stars.now c.put_halves.new.entries c.args.edge.0 c.from.result c.requires.few c.from.ensures c.put_halves.ensures in
     (c.requires.from, omega (arith, c.requires.star_room, c.put_halves.auto.entries), subst (λ t. Raisable t c.args.u.0) (sym put.1) c.requires.low_from)
 
 pub raise-requires-2 : goal.raise-requires-2
 raise-requires-2 c =
-    let put = listed c.args.stars.now c.put_halves.new.entries c.args.edge.0 c.wide.result c.requires.few c.wide.ensures c.put_halves.ensures in (
+    let put = listed c.args.stars.now c.put_halves.new.entries c.args.edge.0 c.from.result c.requires.few c.from.ensures c.put_halves.ensures in (
       c.requires.to,
       omega (arith, c.requires.star_room, c.put_halves.auto.entries, c.raise.auto.stars),
       subst (λ t. Raisable t c.args.v.0) (sym (c.raise.ensures.degree ∙ ap (λ t. raised t c.args.u.0) put.1)) c.requires.low_to,
@@ -35,7 +35,7 @@ raise-requires-2 c =
 
 pub returns : goal.returns
 returns c =
-    let put = listed c.args.stars.now c.put_halves.new.entries c.args.edge.0 c.wide.result c.requires.few c.wide.ensures c.put_halves.ensures in
+    let put = listed c.args.stars.now c.put_halves.new.entries c.args.edge.0 c.from.result c.requires.few c.from.ensures c.put_halves.ensures in
     let last = c.raise-2.ensures in
     record {
       star = last.star ∙ c.raise.ensures.star ∙ put.0;

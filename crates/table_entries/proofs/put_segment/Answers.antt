@@ -31,9 +31,9 @@ returns c =
     let a = c.args in
     let floats = a.floats.now in
     let line = a.line in
-    let at = 3 * limits.nodes + 6 * c.wide.result in record {
+    let at = 3 * limits.nodes + 6 * c.from.result in record {
       x = six-kept floats line at (xs_in limits) (λ t i v h. take-set-le limits.nodes t i v (omega arith));
       y = six-kept floats line at (ys_in limits) (λ t i v h. region_set-behind limits.nodes limits.nodes t i v (omega arith));
       z = six-kept floats line at (zs_in limits) (λ t i v h. region_set-behind (2 * limits.nodes) limits.nodes t i v (omega arith));
-      segment = tail-six floats line (3 * limits.nodes) (6 * c.wide.result) ∙ ap (λ k. put_segment_lem (segments_in limits floats) k line) c.wide.ensures;
+      segment = tail-six floats line (3 * limits.nodes) (6 * c.from.result) ∙ ap (λ k. put_segment_lem (segments_in limits floats) k line) c.from.ensures;
     }

@@ -12,7 +12,7 @@ pub overflow_add-stars : goal.overflow_add-stars
 overflow_add-stars c =
     let n = 2 * limits.edges in
     let stars = c.args.stars.now in
-    let low : Raisable stars (n + c.wide-at.result) = rw c.wide-at.ensures (tail_raisable n stars c.args.node.0 c.requires.2) in
+    let low : Raisable stars (n + c.from-at.result) = rw c.from-at.ensures (tail_raisable n stars c.args.node.0 c.requires.2) in
     search rules
 
 pub returns : goal.returns
@@ -20,6 +20,6 @@ returns c =
     let a = c.args in
     let n = 2 * limits.edges in
     record {
-      star = rw c.wide-at.ensures (take-set-le n a.stars.now (n + a.node.0) _ (omega arith));
-      degree = rw c.wide-at.ensures (tail-raised n a.stars.now a.node.0);
+      star = rw c.from-at.ensures (take-set-le n a.stars.now (n + a.node.0) _ (omega arith));
+      degree = rw c.from-at.ensures (tail-raised n a.stars.now a.node.0);
     }

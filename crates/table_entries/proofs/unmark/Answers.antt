@@ -17,8 +17,8 @@ pub returns : goal.returns
 returns c =
     let marks = c.args.marks.now in
     let n = limits.nodes in
-    let f = 2 * c.wide.result in
+    let f = 2 * c.from.result in
     record {
       node = tail_two_rest n marks f false false;
-      half = tail_two n marks f false false ∙ ap (λ k. two_at (half_marks_in limits marks) (2 * k) false false) c.wide.ensures;
+      half = tail_two n marks f false false ∙ ap (λ k. two_at (half_marks_in limits marks) (2 * k) false false) c.from.ensures;
     }

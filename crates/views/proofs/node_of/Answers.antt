@@ -6,4 +6,4 @@ use Rattle.views.proofs.node_of.Goals as goal
 pub returns : goal.returns
 returns c =
     let a = c.args in
-    c.wide.ensures ∙ ap (λ h. get_or a.dir_edges_src.now h 0) c.wide-half.ensures
+    c.from.ensures ∙ ap (λ h. get_or a.dir_edges_src.now h 0) c.from-half.ensures

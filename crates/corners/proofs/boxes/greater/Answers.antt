@@ -6,8 +6,8 @@ use Rattle.corners.proofs.Whole.{entries_compared}
 use Rattle.corners.proofs.Firsts.{second-first, first-first, higher-order}
 use Rattle.corners.proofs.boxes.greater.Goals as goal
 
-pub returns-then-table-wide : goal.returns-then-table-wide
-returns-then-table-wide c = second-first (higher c.args.table.now) (higher-order c.args.table.now) c.args.a c.args.b (sym (entries_compared c.args.table.now c.wide.result c.wide-2.result c.args.a c.args.b (omega arith) (omega arith) c.wide.ensures c.wide-2.ensures) ∙ c.if-table-wide.true)
+pub returns-then-table-from : goal.returns-then-table-from
+returns-then-table-from c = second-first (higher c.args.table.now) (higher-order c.args.table.now) c.args.a c.args.b (sym (entries_compared c.args.table.now c.from.result c.from-2.result c.args.a c.args.b (omega arith) (omega arith) c.from.ensures c.from-2.ensures) ∙ c.if-table-from.true)
 
 pub returns : goal.returns
-returns c = first-first (higher c.args.table.now) (higher-order c.args.table.now) c.args.a c.args.b (sym (entries_compared c.args.table.now c.wide.result c.wide-2.result c.args.a c.args.b (omega arith) (omega arith) c.wide.ensures c.wide-2.ensures) ∙ c.if-table-wide.false)
+returns c = first-first (higher c.args.table.now) (higher-order c.args.table.now) c.args.a c.args.b (sym (entries_compared c.args.table.now c.from.result c.from-2.result c.args.a c.args.b (omega arith) (omega arith) c.from.ensures c.from-2.ensures) ∙ c.if-table-from.false)

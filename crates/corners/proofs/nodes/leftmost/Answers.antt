@@ -1,18 +1,19 @@
 -- `leftmost` meets its contract.
-use native.Mathlib.Omega.{arith}
+use mathlib.Core.Path.{sym, subst}
 use Rattle.inside.specs.Spots.{spot_in}
+use Rattle.corners.specs.Nodes.{Leftmost}
 use Rattle.corners.proofs.Lefts.{leftmost-first, leftmost_of_two}
 use Rattle.corners.proofs.nodes.leftmost.Goals as goal
 
-pub returns-then-point-eq-NO_NODE : goal.returns-then-point-eq-NO_NODE
-returns-then-point-eq-NO_NODE c =
-    λ nodes left.
-    leftmost-first (spot_in c.args.xs.now c.args.ys.now) nodes c.args.point c.args.node (λ e. absurd (omega (arith, c.requires.2, e))) left c.if-point-eq-NO_NODE.true
+pub returns-in-None : goal.returns-in-None
+returns-in-None c =
+    let at = spot_in c.args.xs.now c.args.ys.now in
+    λ nodes left. leftmost-first at nodes c.args.node (subst (Leftmost at nodes) c.in-None.is left)
 
 pub left_of-requires : goal.left_of-requires
-left_of-requires c = let p = c.requires in let q = p.3 c.if-point-eq-NO_NODE.false in (q.0, q.1, p.0, p.1)
+left_of-requires c = let p = c.requires in let q = p.2 _ c.in-Some.is in (q.0, q.1, p.0, p.1)
 
-pub returns : goal.returns
-returns c =
-    λ nodes left.
-    leftmost_of_two (spot_in c.args.xs.now c.args.ys.now) nodes c.args.point c.args.node (λ e. absurd (omega (arith, c.requires.2, e))) left c.if-point-eq-NO_NODE.false c.left_of.result c.left_of.ensures
+pub returns-in-Some : goal.returns-in-Some
+returns-in-Some c =
+    let at = spot_in c.args.xs.now c.args.ys.now in
+    λ nodes left. leftmost_of_two at nodes c.args.node _ c.left_of.result (subst (Leftmost at nodes) c.in-Some.is left) c.left_of.ensures

@@ -4,8 +4,8 @@ use lib.ListN.{length, take}
 use Rattle.corners.specs.Nodes.{Stamped}
 use Rattle.corners.proofs.nodes.stamp_nodes.Given as goal
 
-abbrev pub invariant-loop-k : goal.invariant-loop-k
-invariant-loop-k l = (l.k ≤ length l.nodes) × Stamped (take l.k l.nodes) l.stamp l.initial.stamps l.stamps
+abbrev pub invariant-loop-node : goal.invariant-loop-node
+invariant-loop-node l = (l.node-index ≤ length l.nodes) × Stamped (take l.node-index l.nodes) l.stamp l.initial.stamps l.stamps
 
-abbrev pub decreases-loop-k : goal.decreases-loop-k
-decreases-loop-k l = length l.nodes - l.k
+abbrev pub decreases-loop-node : goal.decreases-loop-node
+decreases-loop-node l = length l.nodes - l.node-index

@@ -5,8 +5,8 @@ use Rattle.inside.specs.Spots.{spot_in}
 use Rattle.corners.specs.Nodes.{unstamped, Leftmost}
 use Rattle.corners.proofs.nodes.test_point.Given as goal
 
-abbrev pub invariant-loop-k : goal.invariant-loop-k
-invariant-loop-k l = (l.k ≤ length l.nodes) × Leftmost (spot_in l.xs l.ys) (unstamped l.stamp l.stamps (take l.k l.nodes)) l.point
+abbrev pub invariant-loop-node : goal.invariant-loop-node
+invariant-loop-node l = (l.node-index ≤ length l.nodes) × Leftmost (spot_in l.xs l.ys) (unstamped l.stamp l.stamps (take l.node-index l.nodes)) l.point
 
-abbrev pub decreases-loop-k : goal.decreases-loop-k
-decreases-loop-k l = length l.nodes - l.k
+abbrev pub decreases-loop-node : goal.decreases-loop-node
+decreases-loop-node l = length l.nodes - l.node-index

@@ -22,8 +22,8 @@ loop-k-preserved c =
     elim c.if-is_cut.branch [
       | then-is_cut w ↦
           let m : c.if-is_cut.dir_edges_marked ≡ set (set q.dir_edges_marked (2 * q.k) true) (2 * q.k + 1) true =
-          w.dir_edges_marked-is ∙ ap (λ z. set (set q.dir_edges_marked (2 * z) true) (2 * z + 1) true) w.wide-i.ensures in
-          let o : c.if-is_cut.out ≡ set q.out q.count q.k = w.out-is ∙ ap (λ z. set q.out z q.k) w.wide.ensures in (
+          w.dir_edges_marked-is ∙ ap (λ z. set (set q.dir_edges_marked (2 * z) true) (2 * z + 1) true) w.from-i.ensures in
+          let o : c.if-is_cut.out ≡ set q.out q.count q.k = w.out-is ∙ ap (λ z. set q.out z q.k) w.from.ensures in (
             omega arith,
             omega (arith, w.count-is),
             ap length m ∙ simp length-set q.invariant.2,

@@ -19,7 +19,7 @@ loop-k-preserved c =
     let q = c.loop-k in
     let m = c.args.dir_edges_marked.now in
     let t : ℕ → Bool = λ j. unmarked m (2 * j) && unmarked m (2 * j + 1) in
-    let w : c.wide-n.result ≡ c.args.edges = c.wide-n.ensures in
+    let w : c.from-n.result ≡ c.args.edges = c.from-n.ensures in
     let a : unmarked m (2 * q.k) ≡ not (get_or m (2 * q.k) false) = ap not (get_d_any m (2 * q.k) true false (omega (arith, c.requires.1))) in
     let b : unmarked m (2 * q.k + 1) ≡ not (get_or m (2 * q.k + 1) false) = ap not (get_d_any m (2 * q.k + 1) true false (omega (arith, c.requires.1))) in
     let e : t q.k ≡ (not (get_or m (2 * q.k) false) && not (get_or m (2 * q.k + 1) false)) = ap₂ ◌&&◌ a b in
@@ -33,5 +33,5 @@ pub returns : goal.returns
 returns c =
     let q = c.loop-k in
     let m = c.args.dir_edges_marked.now in
-    let e : q.k ≡ c.args.edges = omega (arith, c.wide-n.ensures) in
+    let e : q.k ≡ c.args.edges = omega (arith, c.from-n.ensures) in
     q.invariant.2 ∙ ap (λ k. length (below (λ j. unmarked m (2 * j) && unmarked m (2 * j + 1)) k)) e

@@ -29,5 +29,5 @@ pub returns : goal.returns
 returns c =
     let l = c.args.pieces.now in
     let q = c.loop-k in
-    let e : q.k ≡ c.args.nodes = omega (arith, c.wide-n.ensures) in
+    let e : q.k ≡ c.args.nodes = omega (arith, c.from-n.ensures) in
     q.invariant.2 ∙ ap (λ k. length (below (λ j. ltb 0 (get_or l j 0)) k)) e

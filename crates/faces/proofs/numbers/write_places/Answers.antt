@@ -10,11 +10,11 @@ pub loop-p-init : goal.loop-p-init
 loop-p-init c = (written_none (take c.args.count c.args.order.now) c.args.count c.args.faces.now, omega arith)
 
 -- the ring at place p
-ring : (c : goal.After-wide-ring) → c.wide-ring.result ≡ get_or (take c.args.count c.args.order.now) c.loop-p.p 0
-ring c = c.wide-ring.ensures ∙ sym (get_or-take c.args.count c.args.order.now c.loop-p.p 0 (omega arith))
+ring : (c : goal.After-from-ring) → c.from-ring.result ≡ get_or (take c.args.count c.args.order.now) c.loop-p.p 0
+ring c = c.from-ring.ensures ∙ sym (get_or-take c.args.count c.args.order.now c.loop-p.p 0 (omega arith))
 
 -- it is one of them
-ring_in : (c : goal.After-wide-ring) → c.wide-ring.result < c.args.count
+ring_in : (c : goal.After-from-ring) → c.from-ring.result < c.args.count
 ring_in c = rw (ring c) (once-below (take c.args.count c.args.order.now) c.args.count (length-take-le c.args.count c.args.order.now (omega arith)) c.requires.3 c.loop-p.p (omega arith))
 
 pub bounds-faces-ring : goal.bounds-faces-ring

@@ -1,5 +1,5 @@
 -- `compare_angular` meets its contract: the three tests are those of `comparison`, and where they pass `compare_targets` answers.
-use Rattle.std.proofs.Common.{◌≡◌, ℕ, Bool, true, false, cond, ◌&&◌, T, sym, ap, ◌∙◌, subst}
+use Rattle.std.proofs.Common.{◌≡◌, ℕ, Bool, true, false, cond, ◌&&◌, sym, ap, ◌∙◌}
 use mathlib.Core.Bool.{and-false}
 use Prim.Native.Nat.{Ordering}
 use Rattle.geometry.specs.Coordinate.{coordinate_bound}

@@ -20,10 +20,10 @@ use Rattle.hole_checks.proofs.room.holes_fit.Goals.{Start}
 abbrev held_with : Start → List ℕ → State
 held_with c ids = state_in limits c.args.graph c.args.floats.now c.args.numbers.now c.args.stars.now c.args.marks.now ids
 
-pub returns-then-wide-room : goal.returns-then-wide-room
-returns-then-wide-room c ids sense =
-    let s = held_with (goal.at.returns-then-wide-room c).Start ids in
-    sym (le-leb (length (holes_in s)) c.args.room (omega (arith, few-holes limits s sense, c.if-wide-room.true, c.wide.ensures)))
+pub returns-then-from-room : goal.returns-then-from-room
+returns-then-from-room c ids sense =
+    let s = held_with (goal.at.returns-then-from-room c).Start ids in
+    sym (le-leb (length (holes_in s)) c.args.room (omega (arith, few-holes limits s sense, c.if-from-room.true, c.from.ensures)))
 
 pub sides_of_regions-count-requires : goal.sides_of_regions-count-requires
 sides_of_regions-count-requires c =
@@ -36,10 +36,10 @@ sides_of_regions-count-requires c =
 pub open_rings-requires : goal.open_rings-requires
 open_rings-requires c =
     let given = c.requires.slice_sound in
-    omega (arith, c.wide-2.ensures, sides-within (held_with (goal.at.open_rings-requires c).Start given.ids) _ _ _ (c.sides_of_regions-count.ensures given.ids given.sense))
+    omega (arith, c.from-2.ensures, sides-within (held_with (goal.at.open_rings-requires c).Start given.ids) _ _ _ (c.sides_of_regions-count.ensures given.ids given.sense))
 
 pub returns : goal.returns
 returns c ids sense =
     let sides = c.sides_of_regions-count.new.ring_side in
     ap (λ n. leb n c.args.room)
-    (c.open_rings.ensures ∙ ap (λ n. length (open_among sides n)) c.wide-2.ensures ∙ open_holes (held_with (goal.at.returns c).Start ids) _ _ _ (c.sides_of_regions-count.ensures ids sense))
+    (c.open_rings.ensures ∙ ap (λ n. length (open_among sides n)) c.from-2.ensures ∙ open_holes (held_with (goal.at.returns c).Start ids) _ _ _ (c.sides_of_regions-count.ensures ids sense))

@@ -3,8 +3,9 @@ use Rattle.std.proofs.Common.{ap}
 use Rattle.rules.specs.Limits.{limits}
 use Rattle.tables.specs.Regions.{state_in}
 use Rattle.extracting.specs.Extraction.{lists_of}
-use Rattle.hole_entry.specs.declared.RingsReply.{RingsReply}
-use Rattle.hole_entry.specs.declared.Ringed.{Ringed}
+use Rattle.std.specs.Prelude.{Ok}
+use Rattle.tables.specs.declared.Answer.{Answer}
+use Rattle.hole_entry.specs.declared.RingsAndHoles.{RingsAndHoles}
 use Rattle.hole_entry.proofs.Outcome.{census-few}
 use Rattle.hole_entry.proofs.making.extract_checked.Goals as goal
 
@@ -42,7 +43,7 @@ returns c ids sense =
     record {
       done = c.extract_regions-done.result;
       extraction = c.extract_regions-done.ensures ids sense;
-      answer = ap {B = Ringed} (λ (q : RingsReply). record { graph = c.extract_regions-done.result.graph; reply = q }) c.answer-reply.ensures;
+      answer = ap {B = Answer RingsAndHoles} (λ (q : RingsAndHoles). record { graph = c.extract_regions-done.result.graph; reply = Ok q }) c.answer-reply.ensures;
       holes = found.holes (record {
         stars = a.stars.now;
         marks = a.marks.now;

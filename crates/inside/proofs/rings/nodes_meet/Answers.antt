@@ -15,8 +15,8 @@ near c n l =
 
 pub line_meets-requires : goal.line_meets-requires
 line_meets-requires c = (
-  near c c.wide-a.result (omega (arith, c.wide-a.ensures)),
-  near c c.wide-b.result (omega (arith, c.wide-b.ensures)),
+  near c c.from-a.result (omega (arith, c.from-a.ensures)),
+  near c c.from-b.result (omega (arith, c.from-b.ensures)),
   (small_word c.args.px coordinate_bound (omega arith) c.requires.4.0, small_word c.args.py coordinate_bound (omega arith) c.requires.4.1),
 )
 
@@ -31,7 +31,7 @@ spot_is c n m e l =
 
 pub returns : goal.returns
 returns c =
-    let a = spot_is c c.wide-a.result c.args.from.0 c.wide-a.ensures (omega (arith, c.wide-a.ensures)) in
-    let b = spot_is c c.wide-b.result c.args.to.0 c.wide-b.ensures (omega (arith, c.wide-b.ensures)) in
+    let a = spot_is c c.from-a.result c.args.from.0 c.from-a.ensures (omega (arith, c.from-a.ensures)) in
+    let b = spot_is c c.from-b.result c.args.to.0 c.from-b.ensures (omega (arith, c.from-b.ensures)) in
     c.line_meets.ensures
     ∙ (λ i. meets_of (a i) (b i) (spot (to_z-of_z w64 c.args.px c.ranges.px i) (to_z-of_z w64 c.args.py c.ranges.py i)))

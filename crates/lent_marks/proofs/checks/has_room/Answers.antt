@@ -1,4 +1,5 @@
 -- `has_room` meets its contract: number 6 of the regions is the five lengths.
+use mathlib.Core.Path.{◌∙◌}
 use Rattle.rules.specs.Limits.{limits}
 use Rattle.lent_marks.proofs.Testing.{lent-room-is}
 use Rattle.lent_marks.proofs.checks.has_room.Goals as goal
@@ -6,4 +7,4 @@ use Rattle.lent_marks.proofs.checks.has_room.Goals as goal
 pub returns : goal.returns
 returns c graph =
     let a = c.args in
-    lent-room-is limits graph a.floats.now a.numbers.now a.stars.now a.marks.now a.ids.now
+    c.are_long.ensures ∙ lent-room-is limits graph a.floats.now a.numbers.now a.stars.now a.marks.now a.ids.now

@@ -14,38 +14,38 @@ tables place id next = record { place = place; id = id; next = next }
 
 pub loop-at-init : goal.loop-at-init
 loop-at-init c =
-    subst (λ k. Looking limits.pairs (tables c.args.list_places.now c.args.pair_ids.now c.args.links.now) c.args.id k list_end (get_or (tables c.args.list_places.now c.args.pair_ids.now c.args.links.now).place k 0)) (sym c.wide-k.ensures)
+    subst (λ k. Looking limits.pairs (tables c.args.list_places.now c.args.pair_ids.now c.args.links.now) c.args.id k list_end (get_or (tables c.args.list_places.now c.args.pair_ids.now c.args.links.now).place k 0)) (sym c.from-k.ensures)
     (look_start limits.pairs (tables c.args.list_places.now c.args.pair_ids.now c.args.links.now) c.args.id c.args.edge.0 (omega arith) c.requires)
 
 pub returns-then-id-here : goal.returns-then-id-here
 returns-then-id-here c =
-    let s = look_stop limits.pairs (tables c.args.list_places.now c.args.pair_ids.now c.args.links.now) c.args.id c.wide-k.result c.loop-at.behind c.loop-at.at c.loop-at.invariant c.loop-at-test.true
-    c.wide-p.result c.wide-p.ensures c.if-id-here.true in
+    let s = look_stop limits.pairs (tables c.args.list_places.now c.args.pair_ids.now c.args.links.now) c.args.id c.from-k.result c.loop-at.behind c.loop-at.at c.loop-at.invariant c.loop-at-test.true
+    c.from-p.result c.from-p.ensures c.if-id-here.true in
     record { known = cc; behind = cc }
 
 pub loop-at-smaller : goal.loop-at-smaller
 loop-at-smaller c =
-    look_less limits.pairs (tables c.args.list_places.now c.args.pair_ids.now c.args.links.now) c.args.id c.wide-k.result c.loop-at.behind c.loop-at.at c.loop-at.invariant c.loop-at-test.true
-    c.wide-p.result c.wide-p.ensures c.requires.next_room
+    look_less limits.pairs (tables c.args.list_places.now c.args.pair_ids.now c.args.links.now) c.args.id c.from-k.result c.loop-at.behind c.loop-at.at c.loop-at.invariant c.loop-at-test.true
+    c.from-p.result c.from-p.ensures c.requires.next_room
 
 pub loop-at-preserved : goal.loop-at-preserved
 loop-at-preserved c =
-    look_on limits.pairs (tables c.args.list_places.now c.args.pair_ids.now c.args.links.now) c.args.id c.wide-k.result c.loop-at.behind c.loop-at.at c.loop-at.invariant c.loop-at-test.true
-    c.wide-p.result c.wide-p.ensures c.requires.next_room c.if-id-here.false
+    look_on limits.pairs (tables c.args.list_places.now c.args.pair_ids.now c.args.links.now) c.args.id c.from-k.result c.loop-at.behind c.loop-at.at c.loop-at.invariant c.loop-at-test.true
+    c.from-p.result c.from-p.ensures c.requires.next_room c.if-id-here.false
 
 pub returns : goal.returns
 returns c =
-    let s = look_end limits.pairs (tables c.args.list_places.now c.args.pair_ids.now c.args.links.now) c.args.id c.wide-k.result c.loop-at.behind c.loop-at.at c.loop-at.invariant c.loop-at-test.false in
+    let s = look_end limits.pairs (tables c.args.list_places.now c.args.pair_ids.now c.args.links.now) c.args.id c.from-k.result c.loop-at.behind c.loop-at.at c.loop-at.invariant c.loop-at-test.false in
     record { known = cc; behind = cc }
 
 pub offset_bounds-pair_ids-p : goal.offset_bounds-pair_ids-p
-offset_bounds-pair_ids-p c = omega (arith, c.wide-p.ensures, look_within limits.pairs (tables c.args.list_places.now c.args.pair_ids.now c.args.links.now) c.args.id c.wide-k.result c.loop-at.behind c.loop-at.at c.loop-at.invariant c.loop-at-test.true)
+offset_bounds-pair_ids-p c = omega (arith, c.from-p.ensures, look_within limits.pairs (tables c.args.list_places.now c.args.pair_ids.now c.args.links.now) c.args.id c.from-k.result c.loop-at.behind c.loop-at.at c.loop-at.invariant c.loop-at-test.true)
 
 pub bounds-pair_ids-p : goal.bounds-pair_ids-p
-bounds-pair_ids-p c = omega (arith, c.wide-p.ensures, look_within limits.pairs (tables c.args.list_places.now c.args.pair_ids.now c.args.links.now) c.args.id c.wide-k.result c.loop-at.behind c.loop-at.at c.loop-at.invariant c.loop-at-test.true, c.requires.id_room)
+bounds-pair_ids-p c = omega (arith, c.from-p.ensures, look_within limits.pairs (tables c.args.list_places.now c.args.pair_ids.now c.args.links.now) c.args.id c.from-k.result c.loop-at.behind c.loop-at.at c.loop-at.invariant c.loop-at-test.true, c.requires.id_room)
 
 pub offset_bounds-links-p : goal.offset_bounds-links-p
-offset_bounds-links-p c = omega (arith, c.wide-p.ensures, look_within limits.pairs (tables c.args.list_places.now c.args.pair_ids.now c.args.links.now) c.args.id c.wide-k.result c.loop-at.behind c.loop-at.at c.loop-at.invariant c.loop-at-test.true)
+offset_bounds-links-p c = omega (arith, c.from-p.ensures, look_within limits.pairs (tables c.args.list_places.now c.args.pair_ids.now c.args.links.now) c.args.id c.from-k.result c.loop-at.behind c.loop-at.at c.loop-at.invariant c.loop-at-test.true)
 
 pub bounds-links-p : goal.bounds-links-p
-bounds-links-p c = omega (arith, c.wide-p.ensures, look_within limits.pairs (tables c.args.list_places.now c.args.pair_ids.now c.args.links.now) c.args.id c.wide-k.result c.loop-at.behind c.loop-at.at c.loop-at.invariant c.loop-at-test.true, c.requires.next_room)
+bounds-links-p c = omega (arith, c.from-p.ensures, look_within limits.pairs (tables c.args.list_places.now c.args.pair_ids.now c.args.links.now) c.args.id c.from-k.result c.loop-at.behind c.loop-at.at c.loop-at.invariant c.loop-at-test.true, c.requires.next_room)

@@ -11,7 +11,7 @@ use Rattle.pieces.proofs.fill.reach.Goals as goal
 
 -- the node has no number
 none : (c : goal.Then-pieces-n-eq0) → let a = c.args in get_or a.pieces.now a.node.0 0 ≡ 0
-none c = ap (λ k. get_or c.args.pieces.now k 0) (sym c.wide-n.ensures) ∙ c.if-pieces-n-eq0.true
+none c = ap (λ k. get_or c.args.pieces.now k 0) (sym c.from-n.ensures) ∙ c.if-pieces-n-eq0.true
 
 -- the stack has room for it
 room : (c : goal.Then-pieces-n-eq0) → let a = c.args in a.top < length a.stack.now
@@ -26,9 +26,9 @@ returns-then-pieces-n-eq0 c =
     let n = a.node.0 in
     let p = a.pieces.now in
     let t = a.stack.now in
-    subst (λ k. Reached a.piece (n ∷ []) p t (set p k a.piece) (set t a.top n) a.top (a.top + 1)) (sym c.wide-n.ensures) (reached-none a.piece n a.top p t (none c) (room c))
+    subst (λ k. Reached a.piece (n ∷ []) p t (set p k a.piece) (set t a.top n) a.top (a.top + 1)) (sym c.from-n.ensures) (reached-none a.piece n a.top p t (none c) (room c))
 
 pub returns : goal.returns
 returns c =
     let a = c.args in
-    reached_has a.piece a.node.0 a.top a.pieces.now a.stack.now (λ z. c.if-pieces-n-eq0.false (ap (λ k. get_or a.pieces.now k 0) c.wide-n.ensures ∙ z))
+    reached_has a.piece a.node.0 a.top a.pieces.now a.stack.now (λ z. c.if-pieces-n-eq0.false (ap (λ k. get_or a.pieces.now k 0) c.from-n.ensures ∙ z))

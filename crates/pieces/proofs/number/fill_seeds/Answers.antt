@@ -21,7 +21,7 @@ fill_piece-requires c =
       in_stack = omega (arith, c.requires.in_stack, q.invariant.2, q.invariant.3);
       node = c.requires.low q.i (omega arith);
       some = omega arith;
-      none = ap (λ n. get_or q.pieces n 0) (sym c.wide.ensures) ∙ c.if-untouched.true;
+      none = ap (λ n. get_or q.pieces n 0) (sym c.from.ensures) ∙ c.if-untouched.true;
     }
 
 pub loop-i-preserved : goal.loop-i-preserved
@@ -32,7 +32,7 @@ loop-i-preserved c =
     let below : q.i < a.seeds = omega arith in
     let l : q.i < length (take c.args.seeds c.args.order.now) = omega (arith, (length-take-le c.args.seeds c.args.order.now c.requires.in_order_lem)) in
     let at : k ≡ get_or (take c.args.seeds c.args.order.now) q.i 0 = sym (get_or-take a.seeds a.order.now q.i 0 below) in
-    let n : c.wide.result ≡ k = c.wide.ensures in
+    let n : c.from.result ≡ k = c.from.ensures in
     elim c.if-untouched.branch [
       | then-untouched w ↦ (
         omega arith,

@@ -4,8 +4,8 @@ use Rattle.calls.specs.Replies.{step_reply}
 use Rattle.replies.proofs.Replying.{answer-refused, answer-success}
 use Rattle.replies.proofs.steps.answer_step.Goals as goal
 
-pub returns-in-Refused : goal.returns-in-Refused
-returns-in-Refused c = answer-refused (ap step_reply c.in-Refused.is) c.refusal_number.ensures
+pub returns-in-Err : goal.returns-in-Err
+returns-in-Err c = answer-refused (ap step_reply c.in-Err.is) c.refusal_number.ensures
 
-pub returns-in-Done : goal.returns-in-Done
-returns-in-Done c = answer-success (ap step_reply c.in-Done.is) c.write_state.ensures refl
+pub returns-in-Ok : goal.returns-in-Ok
+returns-in-Ok c = answer-success (ap step_reply c.in-Ok.is) c.write_state.ensures refl

@@ -16,7 +16,7 @@ use Rattle.tables.proofs.Regions.{tail-is, front-inside, front-behind, tail-insi
 use Rattle.reset_entry.proofs.regions.reset_regions.Goals as goal
 
 pub count_starts-counts-requires : goal.count_starts-counts-requires
-count_starts-counts-requires c = starts_of limits _ _ c.wide-halves.result _ _ _ _ c.wide-halves.ensures c.requires.resettable
+count_starts-counts-requires c = starts_of limits _ _ c.from-halves.result _ _ _ _ c.from-halves.ensures c.requires.resettable
 
 pub at_stage-requires : goal.at_stage-requires
 at_stage-requires c = tt
@@ -47,14 +47,14 @@ returns c =
       graph = c.at_stage.ensures;
       star = tail-before (2 * limits.edges) stars degrees star_room;
       degrees = tail-inside (2 * limits.edges) stars degrees star_room
-          ∙ degrees-written (sources_in limits a.numbers.now) stars c.count_starts-counts.result _ degrees a.graph.node_count a.graph.edge_count c.wide-nodes.result c.wide-halves.result
-          c.requires.resettable.few_nodes c.wide-nodes.ensures c.wide-halves.ensures c.count_starts-counts.ensures (tail-is (2 * limits.edges) stars) c.write_degrees.ensures;
+          ∙ degrees-written (sources_in limits a.numbers.now) stars c.count_starts-counts.result _ degrees a.graph.node_count a.graph.edge_count c.from-nodes.result c.from-halves.result
+          c.requires.resettable.few_nodes c.from-nodes.ensures c.from-halves.ensures c.count_starts-counts.ensures (tail-is (2 * limits.edges) stars) c.write_degrees.ensures;
       nodes = tail-before limits.nodes between halves room
           ∙ front-inside limits.nodes marks nodes mark_room kept
           ∙ c.clear_marks.ensures
-          ∙ ap (λ (m : ℕ). over (replicate m false) (node_marks_in limits marks)) c.wide-nodes.ensures;
+          ∙ ap (λ (m : ℕ). over (replicate m false) (node_marks_in limits marks)) c.from-nodes.ensures;
       halves = tail-inside limits.nodes between halves room
           ∙ c.clear_marks-2.ensures
-          ∙ ap₂ (λ (m : ℕ) (t : List Bool). over (replicate (2 * m) false) t) c.wide-halves.ensures
+          ∙ ap₂ (λ (m : ℕ) (t : List Bool). over (replicate (2 * m) false) t) c.from-halves.ensures
           (tail-is limits.nodes between ∙ front-behind limits.nodes marks nodes mark_room kept);
     }

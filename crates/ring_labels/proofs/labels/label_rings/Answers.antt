@@ -9,20 +9,20 @@ use Rattle.stars.specs.Groups.{unmarked}
 use Rattle.ring_labels.specs.Labels.{entry_of, written}
 use Rattle.ring_labels.proofs.Labelling.{length-written, held_first, held_new, held-marked, held-has, held_all}
 use Rattle.ring_labels.proofs.labels.label_rings.Goals as goal
-use Rattle.ring_labels.proofs.labels.label_rings.Goals.{then-is_active+then-labels-wide-eq0, then-is_active+else-labels-wide-eq0, else-is_active}
+use Rattle.ring_labels.proofs.labels.label_rings.Goals.{then-is_active+then-labels-from-eq0, then-is_active+else-labels-from-eq0, else-is_active}
 
-pub wide-requires : goal.wide-requires
-wide-requires c = tt
+pub from-requires : goal.from-requires
+from-requires c = tt
 
 pub loop-h-init : goal.loop-h-init
 loop-h-init c =
     let a = c.args in
     let m = c.clear_labels.new.labels in
-    let e : m ≡ over (replicate (2 * a.edges) 0) a.labels.now = c.clear_labels.ensures ∙ ap (λ k. over (replicate k 0) a.labels.now) c.wide.ensures in
+    let e : m ≡ over (replicate (2 * a.edges) 0) a.labels.now = c.clear_labels.ensures ∙ ap (λ k. over (replicate k 0) a.labels.now) c.from.ensures in
     (refl, omega arith, omega arith, λ t. held_first a.edges a.next.now a.dir_edges_marked.now m t a.labels.now e)
 
-pub wide-requires-then-is_active : goal.wide-requires-then-is_active
-wide-requires-then-is_active c = tt
+pub from-requires-then-is_active : goal.from-requires-then-is_active
+from-requires-then-is_active c = tt
 
 pub stamp_ring-requires : goal.stamp_ring-requires
 stamp_ring-requires c =
@@ -45,17 +45,17 @@ loop-h-preserved c =
     let old = c.clear_labels.new.labels in
     let test = sym c.is_active.ensures in
     elim c.if-is_active.branch [
-      | then-is_active+then-labels-wide-eq0 w ↦
+      | then-is_active+then-labels-from-eq0 w ↦
           let a : unmarked m q.h ≡ true = test ∙ w.if-is_active.true in
-          let z : get_or q.labels q.h 0 ≡ 0 = ap (λ i. get_or q.labels i 0) (sym w.wide-then-is_active.ensures) ∙ w.if-labels-wide-eq0.true in
+          let z : get_or q.labels q.h 0 ≡ 0 = ap (λ i. get_or q.labels i 0) (sym w.from-then-is_active.ensures) ∙ w.if-labels-from-eq0.true in
           let made : c.if-is_active.labels ≡ written (cycle (entry_of n) (2 * e) q.h) (q.used + 1) q.labels = w.labels-is ∙ w.stamp_ring.ensures (2 * e) (unmarked m) c.requires.permutes (l, a) in (
             ap length made ∙ length-written (cycle (entry_of n) (2 * e) q.h) (q.used + 1) q.labels ∙ q.invariant.0,
             omega arith,
             omega (arith, w.used-is),
             λ t. held_new e n m old t q.labels c.if-is_active.labels q.used c.if-is_active.used q.h l a z made w.used-is (q.invariant.3 t),
           )
-      | then-is_active+else-labels-wide-eq0 w ↦
-          let d : get_or q.labels q.h 0 ≡ 0 → ⊥ = λ z. w.if-labels-wide-eq0.false (ap (λ i. get_or q.labels i 0) w.wide-then-is_active.ensures ∙ z) in (
+      | then-is_active+else-labels-from-eq0 w ↦
+          let d : get_or q.labels q.h 0 ≡ 0 → ⊥ = λ z. w.if-labels-from-eq0.false (ap (λ i. get_or q.labels i 0) w.from-then-is_active.ensures ∙ z) in (
             ap length w.labels-is ∙ q.invariant.0,
             omega arith,
             omega (arith, w.used-is),

@@ -19,8 +19,8 @@ link_star-requires c =
     let q = c.loop-n in
     let e : ℕ = c.args.graph.edge_count in
     let l : q.n < c.args.graph.node_count = omega arith in
-    let w : PartWithin (2 * e) c.wide.result c.wide-in-loop-n.result c.args.grouped.now =
-    group_within c.args.offsets.now c.args.grouped.now q.n _ _ c.wide.ensures c.wide-in-loop-n.ensures _ _ c.requires.0 l in
+    let w : PartWithin (2 * e) c.from.result c.from-in-loop-n.result c.args.grouped.now =
+    group_within c.args.offsets.now c.args.grouped.now q.n _ _ c.from.ensures c.from-in-loop-n.ensures _ _ c.requires.0 l in
     (within_more (2 * e) _ _ _ _ c.requires.1 w, λ h m. omega (arith, twin-below e h (w.low h m), c.requires.2, q.invariant.1))
 
 pub loop-n-preserved : goal.loop-n-preserved
@@ -31,7 +31,7 @@ loop-n-preserved c =
     let b = c.args.grouped.now in
     let e : c.link_star.new.next ≡ link_nodes p a b (q.n + 1) c.args.next.now =
     c.link_star.ensures
-    ∙ ap (λ r. link_star_lem p r q.next) (group_part a b q.n _ _ c.wide.ensures c.wide-in-loop-n.ensures)
+    ∙ ap (λ r. link_star_lem p r q.next) (group_part a b q.n _ _ c.from.ensures c.from-in-loop-n.ensures)
     ∙ ap (link_star_lem p (group_of a b q.n)) q.invariant.2
     ∙ ap (λ k. link_nodes p a b k c.args.next.now) (sym (add-one q.n)) in
     (omega arith, ap length e ∙ length-nodes p a b (q.n + 1) c.args.next.now, e)

@@ -1,25 +1,28 @@
 -- `put_head` meets its contract: five numbers in a row.
-use Prim.Native.Nat.{ℕ, ◌+◌, ◌*◌}
+use Prim.Native.Nat.{◌+◌, ◌*◌}
 use native.Mathlib.Omega.{arith}
-use mathlib.Core.Path.{◌≡◌, ap, ◌∙◌, subst}
-use mathlib.Core.List.{◌++◌}
+use mathlib.Core.Path.{◌≡◌, ap, ◌∙◌}
+use lib.IntN.{ℤ}
 use mir.Syntax.{w64}
 use mir.Val.{of_z}
-use Rattle.lists.specs.Buffer.{Put}
 use Rattle.file_rules.specs.Records.{little_bytes}
 use Rattle.file_rules.proofs.Signs.{back}
-use Rattle.ring_writing.proofs.Bytes.{put_row}
+use Rattle.ring_writing.proofs.Bytes.{put_row, put_as, bytes_2, bytes_4, bytes_8}
 use Rattle.ring_writing.proofs.records.put_head.Goals as goal
 
 pub returns : goal.returns
 returns c =
     let a = c.args in
-    let bits : c.bits_of.result ≡ of_z w64 a.doubled = c.bits_of.ensures ∙ ap (of_z w64) (back a.doubled c.ranges.doubled.sfits) in
-    subst (λ (n : ℕ). Put a.at (little_bytes 4 (14 + 2 * a.count) ++ little_bytes 2 2 ++ little_bytes 2 a.face ++ little_bytes 2 a.count ++ little_bytes 8 n) a.out.now c.put_u64.new.out c.put_u64.result) bits
-    (put_row c.requires
+    let n : 14 + 2 * c.from.result ≡ 14 + 2 * a.count = omega (arith, c.from.ensures) in
+    let length = c.to_le_bytes.ensures ∙ bytes_4 (14 + 2 * c.from.result) ∙ ap (little_bytes 4) n in
+    let kind = c.to_le_bytes-2.ensures ∙ bytes_2 2 in
+    let face = c.to_le_bytes-3.ensures ∙ bytes_2 a.face in
+    let count = c.to_le_bytes-4.ensures ∙ bytes_2 a.count in
+    let doubled = c.to_le_bytes-5.ensures ∙ bytes_8 _ ∙ ap (λ (z : ℤ). little_bytes 8 (of_z w64 z)) (back a.doubled c.ranges.doubled.sfits) in
+    put_row c.requires
     (put_row (omega arith)
     (put_row (omega arith)
-    (put_row (omega arith) c.put_u32-place.ensures c.put_u16-place.ensures)
-    c.put_u16-place-2.ensures)
-    c.put_u16-place-3.ensures)
-    c.put_u64.ensures)
+    (put_row (omega arith) (put_as length c.put_text-place.ensures) (put_as kind c.put_text-place-2.ensures))
+    (put_as face c.put_text-place-3.ensures))
+    (put_as count c.put_text-place-4.ensures))
+    (put_as doubled c.put_text.ensures)

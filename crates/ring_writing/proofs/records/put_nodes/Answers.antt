@@ -1,12 +1,12 @@
-use Prim.Native.Nat.{ℕ, ◌+◌}
+use Prim.Native.Nat.{ℕ, ◌+◌, ◌≤◌}
 use native.Mathlib.Omega.{arith}
-use mathlib.Core.Path.{◌≡◌, ap, ◌∙◌, subst}
+use mathlib.Core.Path.{◌≡◌, sym, ap, ◌∙◌, subst}
 use mathlib.Core.List.{List}
-use lib.ListN.{get_or, drop}
+use lib.ListN.{length, get_or, drop}
 use Rattle.lists.proofs.Buffers.{Left, left-all, left-fits, left_put, left-none}
 use Rattle.file_rules.specs.Records.{little_bytes}
 use Rattle.ring_writing.specs.Rings.{nodes_in}
-use Rattle.ring_writing.proofs.Bytes.{words, words_length, words_from_lem, words_end}
+use Rattle.ring_writing.proofs.Bytes.{put_as, bytes_2, words, words_length, words_from_lem, words_end}
 use Rattle.ring_writing.proofs.records.put_nodes.Goals as goal
 
 pub loop-i-init : goal.loop-i-init
@@ -15,19 +15,21 @@ loop-i-init c =
     let size = words_length a.nodes.now a.first a.count c.requires.0 in
     (omega arith, left-all a.at (words (nodes_in a.nodes.now a.first a.count)) a.out.now (omega (arith, size, c.requires.1)))
 
-pub put_u16-place-requires : goal.put_u16-place-requires
-put_u16-place-requires c =
+pub put_text-place-requires : goal.put_text-place-requires
+put_text-place-requires c =
     let a = c.args in
     let i = c.loop-i.i in
-    left-fits (little_bytes 2 (get_or a.nodes.now (a.first + i) 0)) (words (drop (i + 1) (nodes_in a.nodes.now a.first a.count))) (let a = c.args in
+    let bytes = c.to_le_bytes.ensures ∙ bytes_2 (get_or a.nodes.now (a.first + i) 0) in
+    subst (λ (l : List ℕ). c.loop-i.place + length l ≤ length c.loop-i.out) (sym bytes)
+    (left-fits (little_bytes 2 (get_or a.nodes.now (a.first + i) 0)) (words (drop (i + 1) (nodes_in a.nodes.now a.first a.count))) (let a = c.args in
     let q = c.loop-i in
     subst (λ (l : List ℕ). Left a.at (words (nodes_in a.nodes.now a.first a.count)) a.out.now q.place l q.out)
-    (words_from_lem a.nodes.now a.first a.count c.requires.0 q.i c.loop-i-test.true) q.invariant.1)
+    (words_from_lem a.nodes.now a.first a.count c.requires.0 q.i c.loop-i-test.true) q.invariant.1))
 
 pub loop-i-preserved : goal.loop-i-preserved
 loop-i-preserved c = (
   omega arith,
-  left_put c.put_u16-place.ensures (let a = c.args in
+  left_put (put_as (c.to_le_bytes.ensures ∙ bytes_2 (get_or c.args.nodes.now (c.args.first + c.loop-i.i) 0)) c.put_text-place.ensures) (let a = c.args in
       let q = c.loop-i in
       subst (λ (l : List ℕ). Left a.at (words (nodes_in a.nodes.now a.first a.count)) a.out.now q.place l q.out)
       (words_from_lem a.nodes.now a.first a.count c.requires.0 q.i c.loop-i-test.true) q.invariant.1),

@@ -35,7 +35,7 @@ overflow_add-at c =
 pub bounds-half_edges-place : goal.bounds-half_edges-place
 bounds-half_edges-place c =
     let q = c.loop-cur in
-    omega (arith, c.wide-place.ensures, (ring_room c.requires q.seen q.half_edges q.keys q.tally q.cur q.invariant.5), q.invariant.1)
+    omega (arith, c.from-place.ensures, (ring_room c.requires q.seen q.half_edges q.keys q.tally q.cur q.invariant.5), q.invariant.1)
 
 pub take-tally-requires : goal.take-tally-requires
 take-tally-requires c =
@@ -43,13 +43,13 @@ take-tally-requires c =
     record {
       count_bound = omega (arith, (ring_room c.requires q.seen q.half_edges q.keys q.tally q.cur q.invariant.5).1);
       takable = c.requires.takable q.cur (ring_low c.requires q.cur q.invariant.5.inside).2;
-      place_in_bounds = omega (arith, c.wide-place.ensures, (ring_room c.requires q.seen q.half_edges q.keys q.tally q.cur q.invariant.5).2, q.invariant.2);
+      place_in_bounds = omega (arith, c.from-place.ensures, (ring_room c.requires q.seen q.half_edges q.keys q.tally q.cur q.invariant.5).2, q.invariant.2);
     }
 
 pub loop-cur-smaller : goal.loop-cur-smaller
 loop-cur-smaller c =
     let q = c.loop-cur in
-    let e = (ap (entry_of c.args.next.now) c.wide-in-loop-cur.ensures) in
+    let e = (ap (entry_of c.args.next.now) c.from-in-loop-cur.ensures) in
     subst (λ z. length (walk (entry_of c.args.next.now) (length c.args.next.now) c.args.start.0 z) < length (walk (entry_of c.args.next.now) (length c.args.next.now) c.args.start.0 q.cur)) (sym e)
     (walk_less (entry_of c.args.next.now) (length c.args.next.now) (on c.requires) (turns c.requires) c.args.start.0 (starts c.requires) q.cur q.invariant.5.inside (λ z. c.if-cur-start.false (e ∙ z)))
 
@@ -60,18 +60,18 @@ loop-cur-preserved c =
     let xs = c.args.nodes_x.now in
     let ys = c.args.nodes_y.now in
     let at = c.args.at + q.tally.count in
-    let e = (ap (entry_of c.args.next.now) c.wide-in-loop-cur.ensures) in
+    let e = (ap (entry_of c.args.next.now) c.from-in-loop-cur.ensures) in
     let m = ring_low c.requires (entry_of c.args.next.now q.cur) (cycle-next (entry_of c.args.next.now) (length c.args.next.now) (on c.requires) (turns c.requires) c.args.start.0 (starts c.requires) q.cur q.invariant.5.inside) in (
-      length-set q.seen c.wide.result true ∙ q.invariant.0,
-      length-set q.half_edges c.wide-place.result q.cur ∙ q.invariant.1,
+      length-set q.seen c.from.result true ∙ q.invariant.0,
+      length-set q.half_edges c.from-place.result q.cur ∙ q.invariant.1,
       c.take-tally.auto.keys ∙ q.invariant.2,
       omega (arith, e, m.0),
       omega (arith, e, m.1),
       walking_same (entry_of c.args.next.now) (length c.args.next.now) c.args.start.0 c.args.at src xs ys c.args.seen.now c.args.half_edges.now c.args.keys.now
-          (set q.seen q.cur true) (set c.loop-cur.seen c.wide.result true) (set q.half_edges at q.cur) (set c.loop-cur.half_edges c.wide-place.result c.loop-cur.cur) (key_put keys_y src xs ys q.keys at q.cur) (c.take-tally.new.keys)
+          (set q.seen q.cur true) (set c.loop-cur.seen c.from.result true) (set q.half_edges at q.cur) (set c.loop-cur.half_edges c.from-place.result c.loop-cur.cur) (key_put keys_y src xs ys q.keys at q.cur) (c.take-tally.new.keys)
           (taken_at_lem src xs ys q.tally q.cur) c.take-tally.result ((entry_of c.args.next.now) q.cur) _
-          (ap (λ i. set q.seen i true) c.wide.ensures) (ap (λ i. set q.half_edges i q.cur) c.wide-place.ensures) (let a = c.args in
-          c.take-tally.ensures.keys ∙ ap (λ i. key_put keys_y a.dir_edges_src.now a.nodes_x.now a.nodes_y.now c.loop-cur.keys i c.loop-cur.cur) c.wide-place.ensures) c.take-tally.ensures.tally e
+          (ap (λ i. set q.seen i true) c.from.ensures) (ap (λ i. set q.half_edges i q.cur) c.from-place.ensures) (let a = c.args in
+          c.take-tally.ensures.keys ∙ ap (λ i. key_put keys_y a.dir_edges_src.now a.nodes_x.now a.nodes_y.now c.loop-cur.keys i c.loop-cur.cur) c.from-place.ensures) c.take-tally.ensures.tally e
           (walking_on (entry_of c.args.next.now) (length c.args.next.now) c.args.start.0 c.args.at src xs ys c.args.seen.now c.args.half_edges.now c.args.keys.now (on c.requires) (turns c.requires) (starts c.requires)
           q.seen q.half_edges q.keys q.tally q.cur q.invariant.5 (λ z. c.if-cur-start.false (e ∙ z))),
     )
@@ -84,11 +84,11 @@ returns c =
     let ys = c.args.nodes_y.now in
     let at = c.args.at + q.tally.count in
     λ m active t a.
-    walked_frame (entry_of c.args.next.now) (length c.args.next.now) m c.args.start.0 c.args.at src xs ys c.args.seen.now c.args.half_edges.now c.args.keys.now (set c.loop-cur.seen c.wide.result true) (set c.loop-cur.half_edges c.wide-place.result c.loop-cur.cur) (c.take-tally.new.keys) c.take-tally.result
+    walked_frame (entry_of c.args.next.now) (length c.args.next.now) m c.args.start.0 c.args.at src xs ys c.args.seen.now c.args.half_edges.now c.args.keys.now (set c.loop-cur.seen c.from.result true) (set c.loop-cur.half_edges c.from-place.result c.loop-cur.cur) (c.take-tally.new.keys) c.take-tally.result
     (cycle-frame (entry_of c.args.next.now) (length c.args.next.now) m (on c.requires) active (turns c.requires) t c.args.start.0 (starts c.requires) a)
     (walked_same (entry_of c.args.next.now) (length c.args.next.now) c.args.start.0 c.args.at src xs ys c.args.seen.now c.args.half_edges.now c.args.keys.now
-    (set q.seen q.cur true) (set c.loop-cur.seen c.wide.result true) (set q.half_edges at q.cur) (set c.loop-cur.half_edges c.wide-place.result c.loop-cur.cur) (key_put keys_y src xs ys q.keys at q.cur) (c.take-tally.new.keys) (taken_at_lem src xs ys q.tally q.cur) c.take-tally.result
-    (ap (λ i. set q.seen i true) c.wide.ensures) (ap (λ i. set q.half_edges i q.cur) c.wide-place.ensures) (let a = c.args in
-    c.take-tally.ensures.keys ∙ ap (λ i. key_put keys_y a.dir_edges_src.now a.nodes_x.now a.nodes_y.now c.loop-cur.keys i c.loop-cur.cur) c.wide-place.ensures) c.take-tally.ensures.tally
+    (set q.seen q.cur true) (set c.loop-cur.seen c.from.result true) (set q.half_edges at q.cur) (set c.loop-cur.half_edges c.from-place.result c.loop-cur.cur) (key_put keys_y src xs ys q.keys at q.cur) (c.take-tally.new.keys) (taken_at_lem src xs ys q.tally q.cur) c.take-tally.result
+    (ap (λ i. set q.seen i true) c.from.ensures) (ap (λ i. set q.half_edges i q.cur) c.from-place.ensures) (let a = c.args in
+    c.take-tally.ensures.keys ∙ ap (λ i. key_put keys_y a.dir_edges_src.now a.nodes_x.now a.nodes_y.now c.loop-cur.keys i c.loop-cur.cur) c.from-place.ensures) c.take-tally.ensures.tally
     (walking_end (entry_of c.args.next.now) (length c.args.next.now) c.args.start.0 c.args.at src xs ys c.args.seen.now c.args.half_edges.now c.args.keys.now (on c.requires) (turns c.requires) (starts c.requires)
-    q.seen q.half_edges q.keys q.tally q.cur q.invariant.5 (sym (ap (entry_of c.args.next.now) c.wide-in-loop-cur.ensures) ∙ c.if-cur-start.true)))
+    q.seen q.half_edges q.keys q.tally q.cur q.invariant.5 (sym (ap (entry_of c.args.next.now) c.from-in-loop-cur.ensures) ∙ c.if-cur-start.true)))

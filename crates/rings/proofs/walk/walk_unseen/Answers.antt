@@ -43,14 +43,14 @@ walk_ring-tally-requires c =
       count = 2 * c.args.edges;
       active = unmarked c.args.dir_edges_marked.now;
       permutes = k.permutes;
-      live = ((c.loop-k-test.true), (sym c.is_active.ensures ∙ (both c.is_active.result (not (get_or c.loop-k.seen c.wide.result false)) c.if-fresh.true).0));
+      live = ((c.loop-k-test.true), (sym c.is_active.ensures ∙ (both c.is_active.result (not (get_or c.loop-k.seen c.from.result false)) c.if-fresh.true).0));
       in_next = k.in_next;
       in_seen = omega (arith, q.invariant.0, c.requires.unseen.0);
       room = omega (
         arith,
         (let q = c.loop-k in
             held-room c.args.edges c.args.next.now c.args.dir_edges_src.now c.args.dir_edges_marked.now c.args.nodes_x.now c.args.nodes_y.now c.args.seen.now c.args.half_edges.now c.args.keys.now (rows_of c.args.ring_first.now c.args.ring_length.now c.args.ring_side.now c.args.ring_area.now)
-            c.requires.listable.permutes q.seen q.half_edges q.keys (let q = c.loop-k in rows_of q.ring_first q.ring_length q.ring_side q.ring_area) q.count q.at q.k (c.loop-k-test.true) q.invariant.9 (sym c.is_active.ensures ∙ (both c.is_active.result (not (get_or c.loop-k.seen c.wide.result false)) c.if-fresh.true).0) (ap (λ i. get_or c.loop-k.seen i false) (sym c.wide.ensures) ∙ not-true _ (both c.is_active.result (not (get_or c.loop-k.seen c.wide.result false)) c.if-fresh.true).1)),
+            c.requires.listable.permutes q.seen q.half_edges q.keys (let q = c.loop-k in rows_of q.ring_first q.ring_length q.ring_side q.ring_area) q.count q.at q.k (c.loop-k-test.true) q.invariant.9 (sym c.is_active.ensures ∙ (both c.is_active.result (not (get_or c.loop-k.seen c.from.result false)) c.if-fresh.true).0) (ap (λ i. get_or c.loop-k.seen i false) (sym c.from.ensures) ∙ not-true _ (both c.is_active.result (not (get_or c.loop-k.seen c.from.result false)) c.if-fresh.true).1)),
         q.invariant.1,
         k.in_half_edges,
       );
@@ -58,7 +58,7 @@ walk_ring-tally-requires c =
         arith,
         (let q = c.loop-k in
             held-room c.args.edges c.args.next.now c.args.dir_edges_src.now c.args.dir_edges_marked.now c.args.nodes_x.now c.args.nodes_y.now c.args.seen.now c.args.half_edges.now c.args.keys.now (rows_of c.args.ring_first.now c.args.ring_length.now c.args.ring_side.now c.args.ring_area.now)
-            c.requires.listable.permutes q.seen q.half_edges q.keys (let q = c.loop-k in rows_of q.ring_first q.ring_length q.ring_side q.ring_area) q.count q.at q.k (c.loop-k-test.true) q.invariant.9 (sym c.is_active.ensures ∙ (both c.is_active.result (not (get_or c.loop-k.seen c.wide.result false)) c.if-fresh.true).0) (ap (λ i. get_or c.loop-k.seen i false) (sym c.wide.ensures) ∙ not-true _ (both c.is_active.result (not (get_or c.loop-k.seen c.wide.result false)) c.if-fresh.true).1)),
+            c.requires.listable.permutes q.seen q.half_edges q.keys (let q = c.loop-k in rows_of q.ring_first q.ring_length q.ring_side q.ring_area) q.count q.at q.k (c.loop-k-test.true) q.invariant.9 (sym c.is_active.ensures ∙ (both c.is_active.result (not (get_or c.loop-k.seen c.from.result false)) c.if-fresh.true).0) (ap (λ i. get_or c.loop-k.seen i false) (sym c.from.ensures) ∙ not-true _ (both c.is_active.result (not (get_or c.loop-k.seen c.from.result false)) c.if-fresh.true).1)),
         q.invariant.2,
         k.in_keys,
       );
@@ -66,7 +66,7 @@ walk_ring-tally-requires c =
         arith,
         (let q = c.loop-k in
             held-room c.args.edges c.args.next.now c.args.dir_edges_src.now c.args.dir_edges_marked.now c.args.nodes_x.now c.args.nodes_y.now c.args.seen.now c.args.half_edges.now c.args.keys.now (rows_of c.args.ring_first.now c.args.ring_length.now c.args.ring_side.now c.args.ring_area.now)
-            c.requires.listable.permutes q.seen q.half_edges q.keys (let q = c.loop-k in rows_of q.ring_first q.ring_length q.ring_side q.ring_area) q.count q.at q.k (c.loop-k-test.true) q.invariant.9 (sym c.is_active.ensures ∙ (both c.is_active.result (not (get_or c.loop-k.seen c.wide.result false)) c.if-fresh.true).0) (ap (λ i. get_or c.loop-k.seen i false) (sym c.wide.ensures) ∙ not-true _ (both c.is_active.result (not (get_or c.loop-k.seen c.wide.result false)) c.if-fresh.true).1)),
+            c.requires.listable.permutes q.seen q.half_edges q.keys (let q = c.loop-k in rows_of q.ring_first q.ring_length q.ring_side q.ring_area) q.count q.at q.k (c.loop-k-test.true) q.invariant.9 (sym c.is_active.ensures ∙ (both c.is_active.result (not (get_or c.loop-k.seen c.from.result false)) c.if-fresh.true).0) (ap (λ i. get_or c.loop-k.seen i false) (sym c.from.ensures) ∙ not-true _ (both c.is_active.result (not (get_or c.loop-k.seen c.from.result false)) c.if-fresh.true).1)),
         k.few,
       );
       takable = λ h l. record { edges = c.args.edges; sited = k.sited; low = l };
@@ -78,7 +78,7 @@ write_row-requires c =
     let r = c.requires.listable.in_rows in
     let l : q.count < length (table_rings c.args.edges c.args.next.now c.args.dir_edges_marked.now) =
     held-row c.args.edges c.args.next.now c.args.dir_edges_src.now c.args.dir_edges_marked.now c.args.nodes_x.now c.args.nodes_y.now c.args.seen.now c.args.half_edges.now c.args.keys.now (rows_of c.args.ring_first.now c.args.ring_length.now c.args.ring_side.now c.args.ring_area.now)
-    c.requires.listable.permutes q.seen q.half_edges q.keys (let q = c.loop-k in rows_of q.ring_first q.ring_length q.ring_side q.ring_area) q.count q.at q.k (c.loop-k-test.true) q.invariant.9 (sym c.is_active.ensures ∙ (both c.is_active.result (not (get_or c.loop-k.seen c.wide.result false)) c.if-fresh.true).0) (ap (λ i. get_or c.loop-k.seen i false) (sym c.wide.ensures) ∙ not-true _ (both c.is_active.result (not (get_or c.loop-k.seen c.wide.result false)) c.if-fresh.true).1) in
+    c.requires.listable.permutes q.seen q.half_edges q.keys (let q = c.loop-k in rows_of q.ring_first q.ring_length q.ring_side q.ring_area) q.count q.at q.k (c.loop-k-test.true) q.invariant.9 (sym c.is_active.ensures ∙ (both c.is_active.result (not (get_or c.loop-k.seen c.from.result false)) c.if-fresh.true).0) (ap (λ i. get_or c.loop-k.seen i false) (sym c.from.ensures) ∙ not-true _ (both c.is_active.result (not (get_or c.loop-k.seen c.from.result false)) c.if-fresh.true).1) in
     record {
       in_first = omega (arith, l, q.invariant.3, r.in_first);
       in_size = omega (arith, l, q.invariant.4, r.in_size);
@@ -88,13 +88,13 @@ write_row-requires c =
 
 pub overflow_add-at : goal.overflow_add-at
 overflow_add-at c =
-    let w = c.walk_ring-tally.ensures (2 * c.args.edges) (unmarked c.args.dir_edges_marked.now) c.requires.listable.permutes ((c.loop-k-test.true), (sym c.is_active.ensures ∙ (both c.is_active.result (not (get_or c.loop-k.seen c.wide.result false)) c.if-fresh.true).0)) in
+    let w = c.walk_ring-tally.ensures (2 * c.args.edges) (unmarked c.args.dir_edges_marked.now) c.requires.listable.permutes ((c.loop-k-test.true), (sym c.is_active.ensures ∙ (both c.is_active.result (not (get_or c.loop-k.seen c.from.result false)) c.if-fresh.true).0)) in
     omega (
       arith,
       ap (λ t. t.count) w.tallied,
       (let q = c.loop-k in
           held-room c.args.edges c.args.next.now c.args.dir_edges_src.now c.args.dir_edges_marked.now c.args.nodes_x.now c.args.nodes_y.now c.args.seen.now c.args.half_edges.now c.args.keys.now (rows_of c.args.ring_first.now c.args.ring_length.now c.args.ring_side.now c.args.ring_area.now)
-          c.requires.listable.permutes q.seen q.half_edges q.keys (let q = c.loop-k in rows_of q.ring_first q.ring_length q.ring_side q.ring_area) q.count q.at q.k (c.loop-k-test.true) q.invariant.9 (sym c.is_active.ensures ∙ (both c.is_active.result (not (get_or c.loop-k.seen c.wide.result false)) c.if-fresh.true).0) (ap (λ i. get_or c.loop-k.seen i false) (sym c.wide.ensures) ∙ not-true _ (both c.is_active.result (not (get_or c.loop-k.seen c.wide.result false)) c.if-fresh.true).1)),
+          c.requires.listable.permutes q.seen q.half_edges q.keys (let q = c.loop-k in rows_of q.ring_first q.ring_length q.ring_side q.ring_area) q.count q.at q.k (c.loop-k-test.true) q.invariant.9 (sym c.is_active.ensures ∙ (both c.is_active.result (not (get_or c.loop-k.seen c.from.result false)) c.if-fresh.true).0) (ap (λ i. get_or c.loop-k.seen i false) (sym c.from.ensures) ∙ not-true _ (both c.is_active.result (not (get_or c.loop-k.seen c.from.result false)) c.if-fresh.true).1)),
       c.requires.listable.few,
     )
 
@@ -110,14 +110,14 @@ loop-k-preserved c =
     let ys = c.args.nodes_y.now in
     let l : q.k < 2 * e = c.loop-k-test.true in
     let test = sym c.is_active.ensures in
-    let place : get_or q.seen q.k false ≡ get_or q.seen c.wide.result false = ap (λ i. get_or q.seen i false) (sym c.wide.ensures) in
+    let place : get_or q.seen q.k false ≡ get_or q.seen c.from.result false = ap (λ i. get_or q.seen i false) (sym c.from.ensures) in
     let z = c.if-fresh in
     let after = rows_of z.ring_first z.ring_length z.ring_side z.ring_area in
     let turned : Held e c.args.next.now src m xs ys c.args.seen.now c.args.half_edges.now c.args.keys.now (rows_of c.args.ring_first.now c.args.ring_length.now c.args.ring_side.now c.args.ring_area.now) z.seen z.half_edges z.keys after z.count z.at (q.k + 1)
     × ((length z.seen ≡ length q.seen) × (length z.half_edges ≡ length q.half_edges) × (length z.keys ≡ length q.keys) × (length z.ring_first ≡ length q.ring_first)
     × (length z.ring_length ≡ length q.ring_length) × (length z.ring_side ≡ length q.ring_side) × (length z.ring_area ≡ length q.ring_area)) = elim c.if-fresh.branch [
       | then-fresh v ↦
-          let b = both c.is_active.result (not (get_or q.seen c.wide.result false)) v.if-fresh.true in
+          let b = both c.is_active.result (not (get_or q.seen c.from.result false)) v.if-fresh.true in
           let a : unmarked m q.k ≡ true = test ∙ b.0 in
           let x : get_or q.seen q.k false ≡ false = place ∙ not-true _ b.1 in
           let w : WalkedRing f (2 * e) q.k q.at src xs ys q.seen q.half_edges q.keys z.seen z.half_edges z.keys v.walk_ring-tally.result =

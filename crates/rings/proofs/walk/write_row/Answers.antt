@@ -13,7 +13,7 @@ unfolding of_bits
 returns c =
     let a = c.args in
     let side = c.side_of-side.ensures in
-    let at = c.wide-ring.ensures in
+    let at = c.from-ring.ensures in
     let number : c.side_number.result ≡ side_number_lem (side_of (sign_side (mul binary64 a.tally.sum (fin false 1 (negsuc 0))))) = c.side_number.ensures ∙ ap (λ z. side_number_lem (side_of z)) side in
     let area : c.side_area.result ≡ side_area_lem (side_of (sign_side (mul binary64 a.tally.sum (fin false 1 (negsuc 0))))) = c.side_area.ensures ∙ ap (λ z. side_area_lem (side_of z)) side in
     λ i. record {

@@ -4,4 +4,4 @@ use lib.ListN.{get_or}
 use Rattle.splitting.proofs.reads.index_at.Goals as goal
 
 pub returns : goal.returns
-returns c = c.wide-2.ensures ∙ ap (λ i. get_or c.args.table.now i 0) c.wide.ensures
+returns c = c.from-2.ensures ∙ ap (λ i. get_or c.args.table.now i 0) c.from.ensures

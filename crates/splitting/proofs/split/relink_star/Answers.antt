@@ -51,9 +51,9 @@ bounds-upcoming-index_at-then-is_active c =
     omega (arith, c.requires.star_within.low _ (twin-below c.requires.star_within.edges (get_or c.args.grouped.now (c.loop-i.i - 1) 0) (part_low (2 * c.requires.star_within.edges) c.args.from c.args.to (c.loop-i.i - 1) c.args.grouped.now c.requires.star_within.within (omega arith) (omega arith))), q.invariant.2, length-set q.upcoming c.index_at.result h)
 
 -- and the twin has a successor
-pub bounds-next-wide : goal.bounds-next-wide
-bounds-next-wide c =
-    omega (arith, c.requires.by_index _ (part_in c.args.from c.args.to (c.loop-i.i - 1) c.args.grouped.now (omega arith) (omega arith) c.requires.star_within.within.ends), c.wide.ensures, c.twin_of-incoming.ensures, c.loop-i.invariant.3)
+pub bounds-next-from : goal.bounds-next-from
+bounds-next-from c =
+    omega (arith, c.requires.by_index _ (part_in c.args.from c.args.to (c.loop-i.i - 1) c.args.grouped.now (omega arith) (omega arith) c.requires.star_within.within.ends), c.from.ensures, c.twin_of-incoming.ensures, c.loop-i.invariant.3)
 
 pub loop-i-preserved-then-is_active : goal.loop-i-preserved-then-is_active
 loop-i-preserved-then-is_active c =
@@ -67,13 +67,13 @@ loop-i-preserved-then-is_active c =
     let r = pick p (part q.i c.args.to l) in
     let more : pick p (part (q.i - 1) c.args.to l) ≡ h ∷ r =
     before_yes p (q.i - 1) q.i c.args.to l (omega arith) q.invariant.1 c.requires.star_within.within.ends (sym c.is_active.ensures ∙ c.if-is_active.true) in
-    let e₁ : c.wide.result ≡ twin h = c.wide.ensures ∙ c.twin_of-incoming.ensures in
+    let e₁ : c.from.result ≡ twin h = c.from.ensures ∙ c.twin_of-incoming.ensures in
     let e₂ : c.index_at-then-is_active.result ≡ lab (twin h) = c.index_at-then-is_active.ensures ∙ ap lab c.twin_of-incoming.ensures in
     let up : u ≡ noted lab (h ∷ r) u₀ = ap (λ k. set q.upcoming k h) c.index_at.ensures ∙ ap (λ z. set z (lab h) h) q.invariant.4 in (
       omega arith,
       omega arith,
       length-set q.upcoming c.index_at.result h ∙ q.invariant.2,
-      length-set q.next c.wide.result (get_or u c.index_at-then-is_active.result 0) ∙ q.invariant.3,
+      length-set q.next c.from.result (get_or u c.index_at-then-is_active.result 0) ∙ q.invariant.3,
       up ∙ ap (λ z. noted lab z u₀) (sym more),
       ap (λ k. set q.next k (get_or u c.index_at-then-is_active.result 0)) e₁ ∙ ap (λ k. set q.next (twin h) (get_or u k 0)) e₂
           ∙ ap₂ (λ n z. set n (twin h) (get_or z (lab (twin h)) 0)) q.invariant.5 up ∙ ap (λ z. relinked lab u₀ z c.args.next.now) (sym more),

@@ -17,10 +17,10 @@ pub note_star-requires : goal.note_star-requires
 note_star-requires c =
     let q = c.loop-n in
     let k = c.requires.splittable in
-    let l : q.n < c.args.graph.node_count = omega (arith, c.wide-nodes.ensures) in
+    let l : q.n < c.args.graph.node_count = omega (arith, c.from-nodes.ensures) in
     record {
       edges = c.args.graph.edge_count;
-      within = group_within c.args.offsets.now c.args.grouped.now q.n _ _ c.wide-from.ensures c.wide-to.ensures _ _ k.groups l;
+      within = group_within c.args.offsets.now c.args.grouped.now q.n _ _ c.from-from.ensures c.from-to.ensures _ _ k.groups l;
       in_marks = k.in_marks;
       in_labels = k.in_labels;
       low = λ h m. omega (arith, k.low h m, c.requires.edge_count_in_bounds, q.invariant.1);
@@ -31,9 +31,9 @@ relink_star-requires c =
     let q = c.loop-n in
     let k = c.requires.splittable in
     let e : ℕ = c.args.graph.edge_count in
-    let l : q.n < c.args.graph.node_count = omega (arith, c.wide-nodes.ensures) in
-    let w : PartWithin (2 * e) c.wide-from.result c.wide-to.result c.args.grouped.now =
-    group_within c.args.offsets.now c.args.grouped.now q.n _ _ c.wide-from.ensures c.wide-to.ensures _ _ k.groups l in record {
+    let l : q.n < c.args.graph.node_count = omega (arith, c.from-nodes.ensures) in
+    let w : PartWithin (2 * e) c.from-from.result c.from-to.result c.args.grouped.now =
+    group_within c.args.offsets.now c.args.grouped.now q.n _ _ c.from-from.ensures c.from-to.ensures _ _ k.groups l in record {
       star_within = record {
         edges = e;
         within = w;
@@ -52,8 +52,8 @@ loop-n-preserved c =
     let lab = entry_of c.args.labels.now in
     let p : ℕ → Bool = unmarked c.args.dir_edges_marked.now in
     let r = pick p (group_of a b q.n) in
-    let l : q.n < c.wide-nodes.result = c.loop-n-test.true in
-    let same = group_part a b q.n c.wide-from.result c.wide-to.result c.wide-from.ensures c.wide-to.ensures in
+    let l : q.n < c.from-nodes.result = c.loop-n-test.true in
+    let same = group_part a b q.n c.from-from.result c.from-to.result c.from-from.ensures c.from-to.ensures in
     let up = c.note_star.new.upcoming in
     let on = c.relink_star.new.next in
     let e₁ : up ≡ noted lab r q.upcoming = c.note_star.ensures ∙ ap (λ z. noted lab (pick p z) q.upcoming) same in
@@ -62,7 +62,7 @@ loop-n-preserved c =
       omega arith,
       c.relink_star.auto.upcoming ∙ c.note_star.auto.upcoming ∙ q.invariant.1,
       c.relink_star.auto.next ∙ q.invariant.2,
-      λ e low room. split_step c.wide-nodes.result e a b c.args.dir_edges_marked.now c.args.labels.now q.upcoming q.next on q.n l
+      λ e low room. split_step c.from-nodes.result e a b c.args.dir_edges_marked.now c.args.labels.now q.upcoming q.next on q.n l
           (λ h m. omega (arith, low h m, q.invariant.1)) (omega (arith, q.invariant.2)) e₂ (q.invariant.3 e low room),
     )
 
@@ -71,7 +71,7 @@ returns c =
     let q = c.loop-n in
     let g = c.args.graph in
     let k = c.requires.splittable in
-    let w : c.wide-nodes.result ≡ g.node_count = c.wide-nodes.ensures in
+    let w : c.from-nodes.result ≡ g.node_count = c.from-nodes.ensures in
     let e : q.n ≡ g.node_count = omega arith in
     split-all g.node_count g.edge_count c.args.offsets.now c.args.grouped.now c.args.dir_edges_marked.now c.args.labels.now q.next q.n e
     (subst (λ m. SplitBelow m g.edge_count c.args.offsets.now c.args.grouped.now c.args.dir_edges_marked.now c.args.labels.now q.n q.next) w

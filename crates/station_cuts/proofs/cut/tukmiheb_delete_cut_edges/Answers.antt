@@ -10,11 +10,11 @@ use Rattle.replies.specs.Left.{lent, held_in}
 use Rattle.replies.proofs.Handing.{bytes_written_lem, check_read, bytes-enough, row-size, turned-away, let_in, settled}
 use Rattle.station_cuts.proofs.cut.tukmiheb_delete_cut_edges.Goals as goal
 
-pub returns-in-Refused : goal.returns-in-Refused
-returns-in-Refused c =
+pub returns-in-Err : goal.returns-in-Err
+returns-in-Err c =
     let a = c.args in
     let k = lent a.state.now a.floats.now a.numbers.now a.stars.now a.marks.now a.ids.now a.cuts.now a.reply.now in
-    turned-away cut_values k (cut_step limits (held_in k) k.lists) _ (sym c.in-Refused.is ∙ check_read k _ c.read_state-graph.ensures _ c.check_marks-checked.ensures) _ c.refusal_number.ensures
+    turned-away cut_values k (cut_step limits (held_in k) k.lists) _ (sym c.in-Err.is ∙ check_read k _ c.read_state-graph.ensures _ c.check_marks-checked.ensures) _ c.refusal_number.ensures
 
 pub read_marks-row-requires : goal.read_marks-row-requires
 read_marks-row-requires c =

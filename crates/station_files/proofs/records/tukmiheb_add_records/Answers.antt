@@ -10,11 +10,11 @@ use Rattle.replies.proofs.Handing.{bytes_written_lem, check_read, bytes-enough, 
 use Rattle.station_files.specs.Calls.{file_values}
 use Rattle.station_files.proofs.records.tukmiheb_add_records.Goals as goal
 
-pub returns-in-Refused : goal.returns-in-Refused
-returns-in-Refused c =
+pub returns-in-Err : goal.returns-in-Err
+returns-in-Err c =
     let a = c.args in
     let k = lent a.state.now a.floats.now a.numbers.now a.stars.now a.marks.now a.ids.now none a.reply.now in
-    turned-away file_values k (add_records_lem limits a.file.now (held_in k)) _ (sym c.in-Refused.is ∙ check_read k _ c.read_state-graph.ensures _ c.check_marks-checked.ensures) _ c.refusal_number.ensures
+    turned-away file_values k (add_records_lem limits a.file.now (held_in k)) _ (sym c.in-Err.is ∙ check_read k _ c.read_state-graph.ensures _ c.check_marks-checked.ensures) _ c.refusal_number.ensures
 
 pub read_marks-row-requires : goal.read_marks-row-requires
 read_marks-row-requires c =

@@ -16,8 +16,8 @@ use Rattle.station_rings.specs.declared.telling.Told.{Told}
 use Rattle.station_rings.specs.Telling.{with_holes, written_over}
 use Rattle.station_rings.proofs.telling.rings_core.Goals as goal
 
-pub returns-in-Refused : goal.returns-in-Refused
-returns-in-Refused c =
+pub returns-in-Err : goal.returns-in-Err
+returns-in-Err c =
     let a = c.args in
     let s = lent a.state.now a.floats.now a.numbers.now a.stars.now a.marks.now a.ids.now
     (lists_of a.half_edges.now a.ring_first.now a.ring_length.now a.ring_face.now a.ring_side.now a.ring_area.now) a.reply.now in
@@ -27,7 +27,7 @@ returns-in-Refused c =
       done = λ old long.
           let k = with_holes s old in
           ap (λ n. gives told.number (with_holes s (over (lent_holes (take n told.list)) old))) none
-          ∙ turned-away ring_values k (extract limits (held_in k) k.lists) _ (sym c.in-Refused.is ∙ check_read s _ c.read_state-graph.ensures _ c.check_marks-checked.ensures) _ c.turned_down.ensures.0;
+          ∙ turned-away ring_values k (extract limits (held_in k) k.lists) _ (sym c.in-Err.is ∙ check_read s _ c.read_state-graph.ensures _ c.check_marks-checked.ensures) _ c.turned_down.ensures.0;
       roomed = omega (arith, none);
       few = omega (arith, none);
     }

@@ -14,13 +14,13 @@ pub returns-then-halves-h : goal.returns-then-halves-h
 returns-then-halves-h c =
     let a = c.args in
     seen-outside a.halves a.nodes_outgoing.now c.loop-i.i (omega arith) (omega arith)
-    c.wide-h.result c.wide-h.ensures c.if-halves-h.true
+    c.from-h.result c.from-h.ensures c.if-halves-h.true
 
 pub returns-then-seen-h : goal.returns-then-seen-h
 returns-then-seen-h c =
     let a = c.args in
     seen_twice a.halves a.nodes_outgoing.now c.loop-i.i (omega arith) (omega arith)
-    c.loop-i.seen c.wide-h.result c.wide-h.ensures c.if-halves-h.false c.if-seen-h.true c.loop-i.invariant.2
+    c.loop-i.seen c.from-h.result c.from-h.ensures c.if-halves-h.false c.if-seen-h.true c.loop-i.invariant.2
 
 pub loop-i-preserved : goal.loop-i-preserved
 loop-i-preserved c =
@@ -28,7 +28,7 @@ loop-i-preserved c =
       omega arith,
       simp length-set (omega arith),
       seen_more a.halves a.nodes_outgoing.now c.loop-i.i (omega arith) (omega arith)
-          c.loop-i.seen c.wide-h.result c.wide-h.ensures c.if-halves-h.false (omega arith) c.if-seen-h.false c.loop-i.invariant.2,
+          c.loop-i.seen c.from-h.result c.from-h.ensures c.if-halves-h.false (omega arith) c.if-seen-h.false c.loop-i.invariant.2,
     )
 
 pub returns : goal.returns

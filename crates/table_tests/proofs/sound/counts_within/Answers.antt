@@ -8,5 +8,5 @@ use Rattle.table_tests.proofs.sound.counts_within.Goals as goal
 pub returns : goal.returns
 returns c =
     let g = c.args.graph in
-    ap₂ (λ n m. leb n limits.nodes && leb m limits.edges && leb g.stage 4) c.wide.ensures c.wide-2.ensures
+    ap₂ (λ n m. leb n limits.nodes && leb m limits.edges && leb g.stage 4) c.from.ensures c.from-2.ensures
     ∙ and_assoc (leb g.node_count limits.nodes) (leb g.edge_count limits.edges) (leb g.stage 4)

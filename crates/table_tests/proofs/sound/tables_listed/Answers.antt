@@ -5,8 +5,8 @@ use Rattle.table_tests.proofs.sound.tables_listed.Goals as goal
 
 pub returns : goal.returns
 returns c =
-    let n = c.wide-nodes in
-    let e = c.wide-edges in
+    let n = c.from-nodes in
+    let e = c.from-edges in
     let a = c.args in
     listed_tests limits.bound a.graph.node_count a.graph.edge_count a.nodes_x.now a.nodes_y.now
     a.dir_edges_src.now a.dir_edges_dst.now a.dir_edges_marked.now a.nodes_outgoing.now

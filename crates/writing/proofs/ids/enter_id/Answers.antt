@@ -21,7 +21,7 @@ returns-then-behind-eq-LIST_END c graph floats stars marks =
     -- the pair leads to where the list started
     let leads : links_in limits c.put_first.new.numbers ≡ set (links_in limits a.numbers.now) a.place (get_or (list_places_in limits a.numbers.now) a.edge.0 list_end) =
     put.link
-    ∙ ap (λ e. set (links_in limits a.numbers.now) a.place (get_or a.numbers.now (4 * limits.edges + e) 0)) c.wide.ensures
+    ∙ ap (λ e. set (links_in limits a.numbers.now) a.place (get_or a.numbers.now (4 * limits.edges + e) 0)) c.from.ensures
     ∙ ap (set (links_in limits a.numbers.now) a.place) (place_read limits a.numbers.now c.requires.number_room a.edge.0 c.requires.few) in
     first-entered limits a.edge.0 a.id a.behind a.place a.numbers.now a.ids.now c.requires
     c.put_first.new.numbers c.put_lowest.new.ids put.source put.target c.put_lowest.ensures.pair

@@ -16,7 +16,7 @@ pub returns-then-is_new : goal.returns-then-is_new
 returns-then-is_new c graph numbers ids =
     let a = c.args in
     node_stored limits a.node.0 a.point c.requires.few graph a.floats.now numbers a.stars.now a.marks.now ids
-    a.is_new c.if-is_new.true c.wide-n.result c.wide-n.ensures
+    a.is_new c.if-is_new.true c.from-n.result c.from-n.ensures
 
 pub returns-else-is_new : goal.returns-else-is_new
 returns-else-is_new c graph numbers ids = rw c.if-is_new.false refl

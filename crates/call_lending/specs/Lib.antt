@@ -1,0 +1,2 @@
+-- How much of a slice is lent.
+pub mod Lent

@@ -1,8 +1,0 @@
--- `write_zeros` ends: what is left is less with each chunk.
-use Rattle.listing_cases.proofs.write_zeros.Given as goal
-
-abbrev pub invariant-loop-left : goal.invariant-loop-left
-invariant-loop-left l = Unit {0}
-
-abbrev pub decreases-loop-left : goal.decreases-loop-left
-decreases-loop-left l = l.left
