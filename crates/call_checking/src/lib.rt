@@ -3,24 +3,27 @@
 
 use call_entries::enter;
 use call_image::{Change, image_of};
-use call_lending::{Settings, Tables};
+use call_lending::{RingLists, Settings, Slices};
 use call_list::GraphCall;
 use call_replies::say_reply;
 use std::io;
 use std::io::Write;
-use tables::PlanarGraph;
+use tables::{MAX_HALF_EDGES, PlanarGraph, refusal_number};
 
-// Any call but the extraction of rings.
+// Any call but the extraction of rings; pruning and cutting list edges where the half-edges of rings go. The
+// other lists of rings are lent to see that they stay.
 pub fn perform<W: Write>(
     out: &mut W,
     call: GraphCall,
     settings: Settings,
-    tables: &mut Tables,
+    slices: &mut Slices,
+    half_edges: &mut [u16; MAX_HALF_EDGES],
+    rings: &RingLists,
 ) -> io::Result<PlanarGraph> {
-    let before = image_of(tables);
-    let done = enter(call, settings, tables);
-    let after = image_of(tables);
-    let reply = done.reply;
+    let before = image_of(slices, half_edges, rings);
+    let done = enter(call, settings, slices.lend(None), half_edges);
+    let after = image_of(slices, half_edges, rings);
+    let reply = done.reply.map_err(|why| u64::from(refusal_number(why)));
     let new = done.graph;
     let change = Change {
         old: settings.graph,
@@ -29,6 +32,6 @@ pub fn perform<W: Write>(
         after: &after,
     };
     let is_kept = change.is_kept(reply);
-    say_reply(out, reply, &tables.lists.half_edges, is_kept)?;
+    say_reply(out, reply, half_edges, is_kept)?;
     Ok(new)
 }

@@ -3,7 +3,7 @@
 #![tactic(auto)]
 
 use adding::LineEdge;
-use call_lending::{LentLists, LentSlices, Settings, Tables};
+use call_lending::{LentSlices, Settings, first};
 use call_list::GraphCall;
 use call_replies::Reply;
 use geometry::Line3D;
@@ -115,18 +115,22 @@ fn reset(graph: PlanarGraph, lent: LentSlices<'_>) -> Answer<Reply> {
 }
 
 // The entry that a line of the call list names, but for the extraction of rings; pruning and cutting list
-// edges where the half-edges of rings go.
-pub fn enter(call: GraphCall, settings: Settings, tables: &mut Tables) -> Answer<Reply> {
+// edges in `listed`. The entry is lent the slices and this list as they are set to be lent.
+pub fn enter(
+    call: GraphCall,
+    settings: Settings,
+    slices: LentSlices<'_>,
+    listed: &mut [u16],
+) -> Answer<Reply> {
     let graph = settings.graph;
-    let Tables { slices, lists } = tables;
     let lent = slices.lend(settings.short);
-    let LentLists { half_edges, .. } = lists.lend(settings.length);
+    let listed = first(listed, settings.length);
     match call {
         GraphCall::Create => create(graph, lent),
         GraphCall::Add(line) => add(graph, line, lent),
         GraphCall::Sort => sort(graph, lent),
-        GraphCall::Prune => prune(graph, lent, half_edges),
-        GraphCall::Cut => cut(graph, lent, half_edges),
+        GraphCall::Prune => prune(graph, lent, listed),
+        GraphCall::Cut => cut(graph, lent, listed),
         GraphCall::Reset => reset(graph, lent),
     }
 }

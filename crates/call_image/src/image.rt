@@ -3,7 +3,7 @@ ghost use Rattle.std.specs.Prelude.{◌+◌, ◌≤◌, length};
 ghost use Rattle.rules.specs.Limits.{limits};
 ghost use Rattle.call_image.specs.Image.{image_length};
 
-use call_lending::Tables;
+use call_lending::{RingLists, Slices};
 use call_replies::float_bits;
 use tables::{FLOATS, IDS, MARKS, MAX_HALF_EDGES, NUMBERS, STARS};
 
@@ -79,20 +79,18 @@ fn copy_table<T: Bits>(table: &[T], at: usize, image: &mut Image)
 }
 
 // The image of everything that a call is lent.
-pub fn image_of(tables: &Tables) -> Image {
+pub fn image_of(slices: &Slices, half_edges: &[u16; MAX_HALF_EDGES], rings: &RingLists) -> Image {
     let mut image = [0u64; IMAGE];
-    let slices = &tables.slices;
     copy_table(&slices.floats, FLOATS_AT, &mut image);
     copy_table(&slices.numbers, NUMBERS_AT, &mut image);
     copy_table(&slices.stars, STARS_AT, &mut image);
     copy_table(&slices.marks, MARKS_AT, &mut image);
     copy_table(&slices.ids, IDS_AT, &mut image);
-    let lists = &tables.lists;
-    copy_table(&lists.half_edges, HALF_EDGES_AT, &mut image);
-    copy_table(&lists.ring_first, FIRST_AT, &mut image);
-    copy_table(&lists.ring_length, LENGTH_AT, &mut image);
-    copy_table(&lists.ring_face, FACE_AT, &mut image);
-    copy_table(&lists.ring_side, SIDE_AT, &mut image);
-    copy_table(&lists.ring_area, AREA_AT, &mut image);
+    copy_table(half_edges, HALF_EDGES_AT, &mut image);
+    copy_table(&rings.ring_first, FIRST_AT, &mut image);
+    copy_table(&rings.ring_length, LENGTH_AT, &mut image);
+    copy_table(&rings.ring_face, FACE_AT, &mut image);
+    copy_table(&rings.ring_side, SIDE_AT, &mut image);
+    copy_table(&rings.ring_area, AREA_AT, &mut image);
     image
 }

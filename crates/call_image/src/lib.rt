@@ -7,4 +7,4 @@ mod image;
 mod stays;
 
 pub use change::Change;
-pub use image::{Image, image_of};
+pub use image::{IMAGE, Image, image_of};

@@ -12,7 +12,7 @@ use crate::image::{
 use call_replies::Reply;
 use tables::{
     DEGREES, EdgeId, HALF_MARKS, LINKS, LIST_PLACES, MAX_EDGES, MAX_HALF_EDGES, MAX_NODES,
-    MAX_PAIRS, NODES_Y, NODES_Z, PAIR_IDS, PlanarGraph, Refusal, SEGMENTS, TARGETS,
+    MAX_PAIRS, NODES_Y, NODES_Z, PAIR_IDS, PlanarGraph, SEGMENTS, TARGETS,
 };
 
 // The place of an edge's list, or the number of pairs where it has none.
@@ -129,8 +129,8 @@ impl Change<'_> {
             && self.same_part(HALF_EDGES_AT, IMAGE)
     }
 
-    // Whether the call left alone what it has to.
-    pub fn is_kept(self, reply: Result<Reply, Refusal>) -> bool {
+    // Whether the call left alone what it has to; a refusal is told by its number.
+    pub fn is_kept(self, reply: Result<Reply, u64>) -> bool {
         let Ok(reply) = reply else {
             return self.same_graph() && self.same_part(0, IMAGE);
         };

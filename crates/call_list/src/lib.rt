@@ -25,7 +25,7 @@ pub enum GraphCall {
 }
 
 // What a line says. `State` has the counts of nodes and edges and the stage; `Set` a table, the place in
-// it, and what is put there.
+// it, and what is put there. `None` stands for a number that no table has, and for what is no number.
 #[derive(Clone, Copy)]
 pub enum Call {
     Blank,
@@ -34,8 +34,8 @@ pub enum Call {
     Rings,
     Show,
     State(PlanarGraph),
-    Set(Table, usize, Number),
-    Short(Table),
+    Set(Option<Table>, usize, Option<Number>),
+    Short(Option<Table>),
     List(usize),
     Holes(usize),
     Unknown,

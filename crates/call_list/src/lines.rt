@@ -46,15 +46,16 @@ fn read_state(words: &mut Words<'_>) -> Option<Call> {
 // The number of a table.
 fn next_table(words: &mut Words<'_>) -> Option<Table> {
     let number = next_count(words, TABLES as u64)?;
-    Some(Table::ALL[number as usize])
+    Table::numbered(number as usize)
 }
 
-// A table, a place, and a number.
+// A table, a place, and what is put there. A line is this call also where no number stands last, but for one that
+// is not UTF-8, which is no call.
 fn read_entry(words: &mut Words<'_>) -> Option<Call> {
     let table = next_table(words)?;
     let place = next_u16(words)?;
-    let number = next_number(words)?;
-    Some(Call::Set(table, usize::from(place), number))
+    let number = next_number(words);
+    Some(Call::Set(Some(table), usize::from(place), number))
 }
 
 // The length of a list.
@@ -75,7 +76,7 @@ fn read_named(name: &[u8], words: &mut Words<'_>) -> Option<Call> {
         b"show" => Some(Call::Show),
         b"graph" => read_state(words),
         b"set" => read_entry(words),
-        b"short" => next_table(words).map(Call::Short),
+        b"short" => Some(Call::Short(Some(next_table(words)?))),
         b"list" => next_length(words, LENGTHS).map(Call::List),
         b"holes" => next_length(words, HOLE_LENGTHS).map(Call::Holes),
         _ => None,

@@ -58,12 +58,12 @@ pub fn number_in(word: &[u8]) -> Option<Number> {
     }
 }
 
-// The number where it is whole, has no minus sign, and is below the limit.
-pub fn count_of(number: Number, limit: u64) -> Option<u64>
+// The number where there is one that is whole, has no minus sign, and is below the limit.
+pub fn count_of(number: Option<Number>, limit: u64) -> Option<u64>
     ensures { (n : ℕ) → result ≡ Some n → n < limit }
 {
     match number {
-        Number::Whole { minus: false, size } if size < limit => Some(size),
+        Some(Number::Whole { minus: false, size }) if size < limit => Some(size),
         _ => None,
     }
 }
@@ -74,10 +74,10 @@ fn whole_float(minus: bool, size: u64) -> f64 {
     if minus { -float } else { float }
 }
 
-// The number as a float.
-pub fn real_of(number: Number) -> f64 {
-    match number {
-        Number::Whole { minus, size } => whole_float(minus, size),
-        Number::Bits(bits) => segment_file::float_of(bits),
+// The number as a float, where there is one.
+pub fn real_of(number: Option<Number>) -> Option<f64> {
+    match number? {
+        Number::Whole { minus, size } => Some(whole_float(minus, size)),
+        Number::Bits(bits) => Some(segment_file::float_of(bits)),
     }
 }

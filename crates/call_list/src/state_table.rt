@@ -1,4 +1,5 @@
 // The state tables.
+ghost use Rattle.std.specs.Prelude.{◌≡◌, slice_get};
 
 // How many there are.
 pub const TABLES: usize = 14;
@@ -40,4 +41,11 @@ impl Table {
         Table::PairIds,
         Table::Links,
     ];
+
+    // The table that has a number, where one has it.
+    pub fn numbered(number: usize) -> Option<Table>
+        ensures { result ≡ slice_get Self.ALL number }
+    {
+        Table::ALL.get(number).copied()
+    }
 }

@@ -15,14 +15,14 @@ pub fn next_number(words: &mut Words<'_>) -> Option<Number> {
 
 // The next word's number as a float.
 fn next_float(words: &mut Words<'_>) -> Option<f64> {
-    Some(real_of(next_number(words)?))
+    real_of(next_number(words))
 }
 
 // The next word's number where it is a whole number from 0 up to below the limit.
 pub fn next_count(words: &mut Words<'_>, limit: u64) -> Option<u64>
     ensures { (n : ℕ) → result ≡ Some n → n < limit }
 {
-    count_of(next_number(words)?, limit)
+    count_of(next_number(words), limit)
 }
 
 // Three words: x, y and z.

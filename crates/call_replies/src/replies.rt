@@ -2,12 +2,11 @@
 use crate::Reply;
 use crate::entries::{Entries, entry};
 use crate::floats::Printed;
-use call_lending::Lists;
+use call_lending::SharedLists;
 use cycles::Census;
 use holes::Hole;
 use std::io::Write;
 use std::{fmt, io};
-use tables::{Refusal, refusal_number};
 
 // What cutting and ring extraction count.
 #[derive(Clone, Copy)]
@@ -27,10 +26,10 @@ impl fmt::Display for Counted {
     }
 }
 
-// A reply, and the list in which the call lists edges where it lists any.
+// A reply, or the number of a refusal, and the list in which the call lists edges where it lists any.
 #[derive(Clone, Copy)]
 struct Shown<'a> {
-    reply: Result<Reply, Refusal>,
+    reply: Result<Reply, u64>,
     listed: &'a [u16],
 }
 
@@ -66,18 +65,15 @@ impl fmt::Display for Shown<'_> {
                     " comparisons {comparisons} halves {halves} holes {holes}"
                 )
             }
-            Err(why) => {
-                let number = refusal_number(why);
-                write!(f, "refused {number}")
-            }
+            Err(number) => write!(f, "refused {number}"),
         }
     }
 }
 
-// A reply's line, which ends in a word where something changed that had to stay.
+// A reply's line, which ends in a word where something changed that had to stay. A refusal is told by its number.
 pub fn say_reply<W: Write>(
     out: &mut W,
-    reply: Result<Reply, Refusal>,
+    reply: Result<Reply, u64>,
     listed: &[u16],
     is_kept: bool,
 ) -> io::Result<()> {
@@ -95,15 +91,15 @@ fn side_word(side: u8) -> &'static str {
     }
 }
 
-fn say_ring<W: Write>(out: &mut W, lists: &Lists, i: usize) -> io::Result<()> {
-    let face = entry(&lists.ring_face, i);
-    let side = side_word(entry(&lists.ring_side, i));
-    let area = entry(&lists.ring_area, i);
+fn say_ring<W: Write>(out: &mut W, lists: SharedLists<'_>, i: usize) -> io::Result<()> {
+    let face = entry(lists.ring_face, i);
+    let side = side_word(entry(lists.ring_side, i));
+    let area = entry(lists.ring_area, i);
     let doubled = Printed(area + area);
     let halves = Entries {
-        list: &lists.half_edges,
-        first: usize::from(entry(&lists.ring_first, i)),
-        count: usize::from(entry(&lists.ring_length, i)),
+        list: lists.half_edges,
+        first: usize::from(entry(lists.ring_first, i)),
+        count: usize::from(entry(lists.ring_length, i)),
     };
     writeln!(
         out,
@@ -114,8 +110,8 @@ fn say_ring<W: Write>(out: &mut W, lists: &Lists, i: usize) -> io::Result<()> {
 // A line for each ring, where there are any.
 pub fn say_rings<W: Write>(
     out: &mut W,
-    reply: Result<Reply, Refusal>,
-    lists: &Lists,
+    reply: Result<Reply, u64>,
+    lists: SharedLists<'_>,
 ) -> io::Result<()> {
     if let Ok(Reply::Rings { count, .. }) = reply {
         for i in 0..usize::from(count) {

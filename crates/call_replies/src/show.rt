@@ -1,7 +1,7 @@
 // The state as lines of text: the counts and the stage, a line for each node, a line for each edge.
 use crate::entries::entry;
 use crate::floats::Printed;
-use call_lending::Slices;
+use call_lending::SharedSlices;
 use std::io::Write;
 use std::{fmt, io};
 use tables::{
@@ -12,7 +12,7 @@ use tables::{
 // The half-edges that start at a node, in the order of the star table.
 #[derive(Clone, Copy)]
 struct Star<'a> {
-    slices: &'a Slices,
+    slices: SharedSlices<'a>,
     node: u16,
     halves: usize,
 }
@@ -20,8 +20,8 @@ struct Star<'a> {
 impl fmt::Display for Star<'_> {
     fn fmt<W: fmt::Write>(&self, f: &mut fmt::Formatter<W>) -> fmt::Result {
         for i in 0..self.halves {
-            let half_edge = entry(&self.slices.stars, i);
-            if entry(&self.slices.numbers, usize::from(half_edge)) == self.node {
+            let half_edge = entry(self.slices.stars, i);
+            if entry(self.slices.numbers, usize::from(half_edge)) == self.node {
                 write!(f, " {half_edge}")?;
             }
         }
@@ -29,13 +29,18 @@ impl fmt::Display for Star<'_> {
     }
 }
 
-fn show_node<W: Write>(out: &mut W, slices: &Slices, node: u16, halves: usize) -> io::Result<()> {
+fn show_node<W: Write>(
+    out: &mut W,
+    slices: SharedSlices<'_>,
+    node: u16,
+    halves: usize,
+) -> io::Result<()> {
     let n = usize::from(node);
-    let x = Printed(entry(&slices.floats, n));
-    let y = Printed(entry(&slices.floats, NODES_Y + n));
-    let z = Printed(entry(&slices.floats, NODES_Z + n));
-    let degree = entry(&slices.stars, DEGREES + n);
-    let marked = u8::from(entry(&slices.marks, n));
+    let x = Printed(entry(slices.floats, n));
+    let y = Printed(entry(slices.floats, NODES_Y + n));
+    let z = Printed(entry(slices.floats, NODES_Z + n));
+    let degree = entry(slices.stars, DEGREES + n);
+    let marked = u8::from(entry(slices.marks, n));
     let star = Star {
         slices,
         node,
@@ -48,7 +53,7 @@ fn show_node<W: Write>(out: &mut W, slices: &Slices, node: u16, halves: usize) -
 // The six floats of a segment.
 #[derive(Clone, Copy)]
 struct Segment<'a> {
-    slices: &'a Slices,
+    slices: SharedSlices<'a>,
     edge: u16,
 }
 
@@ -56,7 +61,7 @@ impl fmt::Display for Segment<'_> {
     fn fmt<W: fmt::Write>(&self, f: &mut fmt::Formatter<W>) -> fmt::Result {
         let first = SEGMENTS + 6 * usize::from(self.edge);
         for i in 0..6 {
-            let x = entry(&self.slices.floats, first + i);
+            let x = entry(self.slices.floats, first + i);
             write!(f, " {}", Printed(x))?;
         }
         Ok(())
@@ -67,7 +72,7 @@ impl fmt::Display for Segment<'_> {
 // as there are pairs.
 #[derive(Clone, Copy)]
 struct LineIds<'a> {
-    slices: &'a Slices,
+    slices: SharedSlices<'a>,
     first: usize,
 }
 
@@ -78,30 +83,35 @@ impl fmt::Display for LineIds<'_> {
             if MAX_PAIRS <= at {
                 return Ok(());
             }
-            write!(f, " {}", entry(&self.slices.ids, PAIR_IDS + at))?;
-            at = usize::from(entry(&self.slices.numbers, LINKS + at));
+            write!(f, " {}", entry(self.slices.ids, PAIR_IDS + at))?;
+            at = usize::from(entry(self.slices.numbers, LINKS + at));
         }
         Ok(())
     }
 }
 
 // With the nodes at which the first half of the edge starts and ends, and the marks of both halves.
-fn show_edge<W: Write>(out: &mut W, slices: &Slices, edge: u16) -> io::Result<()> {
+fn show_edge<W: Write>(out: &mut W, slices: SharedSlices<'_>, edge: u16) -> io::Result<()> {
     let k = usize::from(edge);
     let h = 2 * k;
     let line = Segment { slices, edge };
-    let id = entry(&slices.ids, k);
-    let from = entry(&slices.numbers, h);
-    let to = entry(&slices.numbers, TARGETS + h);
-    let mark = u8::from(entry(&slices.marks, HALF_MARKS + h));
-    let twin_mark = u8::from(entry(&slices.marks, HALF_MARKS + h + 1));
-    let first = usize::from(entry(&slices.numbers, LIST_PLACES + k));
+    let id = entry(slices.ids, k);
+    let from = entry(slices.numbers, h);
+    let to = entry(slices.numbers, TARGETS + h);
+    let mark = u8::from(entry(slices.marks, HALF_MARKS + h));
+    let twin_mark = u8::from(entry(slices.marks, HALF_MARKS + h + 1));
+    let first = usize::from(entry(slices.numbers, LIST_PLACES + k));
     let ids = LineIds { slices, first };
     write!(out, "edge {edge} line{line} id {id} ends {from} {to}")?;
     writeln!(out, " marked {mark} {twin_mark} ids{ids}")
 }
 
-pub fn show_state<W: Write>(out: &mut W, graph: PlanarGraph, slices: &Slices) -> io::Result<()> {
+// The tables may have any lengths: an entry past the end counts as 0.
+pub fn show_state<W: Write>(
+    out: &mut W,
+    graph: PlanarGraph,
+    slices: SharedSlices<'_>,
+) -> io::Result<()> {
     let PlanarGraph {
         node_count,
         edge_count,

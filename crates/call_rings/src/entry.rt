@@ -1,6 +1,6 @@
 // One call of the extraction of rings, on slices and lists that may be lent short. The entry's core is
 // called: it does all but write the holes, which it hands over.
-use call_lending::{LentLists, LentSlices, Settings, Tables};
+use call_lending::{LentLists, Settings, SharedSlices};
 use call_replies::Reply;
 use hole_entry::RingsAndHoles;
 use holes::Hole;
@@ -40,9 +40,9 @@ fn outcome_of(done: Answer<RingsAndHoles>) -> Answer<Reply> {
     }
 }
 
-pub fn extract(settings: Settings, tables: &mut Tables) -> Extraction {
-    let Tables { slices, lists } = tables;
-    let LentSlices {
+// The core is lent the slices and lists as they are set to be lent.
+pub fn extract(settings: Settings, slices: SharedSlices<'_>, lists: LentLists<'_>) -> Extraction {
+    let SharedSlices {
         floats,
         numbers,
         stars,

@@ -6,14 +6,14 @@ mod entry;
 
 use crate::entry::extract;
 use call_image::{Change, image_of};
-use call_lending::{Settings, Tables};
+use call_lending::{Lists, Settings, Slices};
 use call_replies::{Reply, say_holes, say_reply, say_rings};
 use std::io;
 use std::io::Write;
-use tables::{MAX_SHAPED, PlanarGraph, Refusal};
+use tables::{MAX_HALF_EDGES, MAX_SHAPED, PlanarGraph, refusal_number};
 
 // How many records of the hole list the reply says were written.
-fn holes_said(reply: Result<Reply, Refusal>) -> usize {
+fn holes_said(reply: Result<Reply, u64>) -> usize {
     if let Ok(Reply::Rings { holes, .. }) = reply {
         return usize::from(holes);
     }
@@ -24,12 +24,16 @@ fn holes_said(reply: Result<Reply, Refusal>) -> usize {
 pub fn perform_rings<W: Write>(
     out: &mut W,
     settings: Settings,
-    tables: &mut Tables,
+    slices: &Slices,
+    lists: &mut Lists,
 ) -> io::Result<PlanarGraph> {
-    let before = image_of(tables);
-    let made = extract(settings, tables);
-    let after = image_of(tables);
-    let reply = made.outcome.reply;
+    let before = image_of(slices, &lists.half_edges, &lists.rings);
+    let made = extract(settings, slices.share(), lists.lend(MAX_HALF_EDGES));
+    let after = image_of(slices, &lists.half_edges, &lists.rings);
+    let reply = made
+        .outcome
+        .reply
+        .map_err(|why| u64::from(refusal_number(why)));
     let new = made.outcome.graph;
     let change = Change {
         old: settings.graph,
@@ -39,8 +43,8 @@ pub fn perform_rings<W: Write>(
     };
     let is_said = made.count == holes_said(reply);
     let is_kept = is_said && change.is_kept(reply);
-    say_reply(out, reply, &tables.lists.half_edges, is_kept)?;
-    say_rings(out, reply, &tables.lists)?;
+    say_reply(out, reply, &lists.half_edges, is_kept)?;
+    say_rings(out, reply, lists.share())?;
     let holes = made.list;
     say_holes(out, &holes[..made.count.min(MAX_SHAPED)])?;
     Ok(new)

@@ -3,7 +3,7 @@
 
 use call_checking::perform;
 use call_damage::put_entry;
-use call_lending::{Settings, Tables, slice_of};
+use call_lending::{Lists, Settings, Tables, slice_of};
 use call_list::Call;
 use call_replies::show_state;
 use call_rings::perform_rings;
@@ -27,22 +27,27 @@ pub fn step<W: Write>(
     settings: Settings,
     tables: &mut Tables,
 ) -> io::Result<Settings> {
+    let Tables { slices, lists } = tables;
     match call {
-        Call::Graph(entry) => Ok(called(settings, perform(out, entry, settings, tables)?)),
-        Call::Rings => Ok(called(settings, perform_rings(out, settings, tables)?)),
+        Call::Graph(entry) => {
+            let Lists { half_edges, rings } = lists;
+            let graph = perform(out, entry, settings, slices, half_edges, rings)?;
+            Ok(called(settings, graph))
+        }
+        Call::Rings => Ok(called(settings, perform_rings(out, settings, slices, lists)?)),
         Call::Show => {
-            show_state(out, settings.graph, &tables.slices)?;
+            show_state(out, settings.graph, slices.share())?;
             Ok(settings)
         }
         Call::State(graph) => Ok(Settings { graph, ..settings }),
         Call::Set(table, place, number) => {
-            if put_entry(&mut tables.slices, table, place, number).is_none() {
+            if put_entry(slices, table, place, number).is_none() {
                 writeln!(out, "unknown")?;
             }
             Ok(settings)
         }
         Call::Short(table) => Ok(Settings {
-            short: Some(slice_of(table)),
+            short: slice_of(table),
             ..settings
         }),
         Call::List(length) => Ok(Settings { length, ..settings }),

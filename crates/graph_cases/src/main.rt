@@ -3,7 +3,7 @@
 // before.
 #![tactic(auto)]
 
-use call_lending::{Lists, Settings, Slices, Tables};
+use call_lending::{Lists, RingLists, Settings, Slices, Tables};
 use call_list::Call;
 use call_steps::step;
 use std::io;
@@ -26,11 +26,13 @@ fn filled_tables() -> Tables {
         },
         lists: Lists {
             half_edges: [7; MAX_HALF_EDGES],
-            ring_first: [7; MAX_HALF_EDGES],
-            ring_length: [7; MAX_HALF_EDGES],
-            ring_face: [7; MAX_HALF_EDGES],
-            ring_side: [7; MAX_HALF_EDGES],
-            ring_area: [7.0; MAX_HALF_EDGES],
+            rings: RingLists {
+                ring_first: [7; MAX_HALF_EDGES],
+                ring_length: [7; MAX_HALF_EDGES],
+                ring_face: [7; MAX_HALF_EDGES],
+                ring_side: [7; MAX_HALF_EDGES],
+                ring_area: [7.0; MAX_HALF_EDGES],
+            },
         },
     }
 }

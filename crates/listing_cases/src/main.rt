@@ -3,8 +3,8 @@
 #![tactic(auto)]
 
 use std::fs::File;
-use std::io::{Read, Write};
-use std::{env, io};
+use std::io::Write;
+use std::{env, fs, io};
 
 // A line with the name, and then the listing of the file.
 fn list_file(rt: &HostRuntime, name: &str) -> io::Result<()> {
@@ -101,13 +101,23 @@ const REFUSED: [Long; 6] = [
     },
 ];
 
-fn make_file(rt: &HostRuntime, long: &Long) -> io::Result<()> {
+// At most so many zeros are written at once.
+const CHUNK: u64 = 4096;
+
+// The file, still open: where standard output is closed the file has its number, and the listing goes into the file.
+// What stands behind is read before it is written, since that file may be this one by another name.
+fn make_file(rt: &HostRuntime, long: &Long) -> io::Result<File> {
     let mut made = File::create(rt, long.name)?;
-    made.write_all(&long.length.to_le_bytes())?;
-    made.write_all(&long.kind.to_le_bytes())?;
-    io::copy(&mut io::repeat(0).take(long.zeros), &mut made)?;
-    io::copy(&mut File::open(rt, long.behind)?, &mut made)?;
-    Ok(())
+    let length = long.length.to_le_bytes();
+    let kind = long.kind.to_le_bytes();
+    made.write_all(&[length[0], length[1], length[2], length[3], kind[0], kind[1]])?;
+    let zeros = [0u8; CHUNK as usize];
+    for done in (0..long.zeros).step_by(CHUNK as usize) {
+        made.write_all(&zeros[..CHUNK.min(long.zeros - done) as usize])?;
+    }
+    let behind = fs::read(rt, long.behind)?;
+    made.write_all(&behind)?;
+    Ok(made)
 }
 
 // Argument 0 is the program's own name.
@@ -116,7 +126,7 @@ fn main(rt: HostRuntime) -> io::Result<()> {
         list_file(&rt, &name)?;
     }
     for long in PASSED.iter().chain(&REFUSED) {
-        make_file(&rt, long)?;
+        let _made = make_file(&rt, long)?;
         list_file(&rt, long.name)?;
     }
     Ok(())

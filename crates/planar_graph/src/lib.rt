@@ -9,7 +9,7 @@ pub use create_entry::create;
 pub use cut_entry::{CutEdges, delete_cut_edges};
 pub use cycles::Census;
 pub use file_entry::add_records;
-pub use file_taking::FileTaken;
+pub use file_taking::{FileTaken, end_number};
 pub use frames::FileRefusal;
 pub use geometry::{Coord3D, Line3D};
 pub use hole_entry::{RingsAndHoles, extract_rings};
