@@ -15,7 +15,7 @@ const TEXT: usize = 524288;
 
 // The slices and lists hold something from the start, so that a call that takes them for empty, or
 // clears more than it may, is seen.
-// Not inlined, so that what they are made from, a mebibyte, is off the stack before the calls begin.
+// Not inlined, so that what they are made from, nearly a mebibyte, is off the stack before the calls begin.
 #[inline(never)]
 fn filled_tables() -> Tables {
     Tables {

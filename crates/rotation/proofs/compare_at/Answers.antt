@@ -14,15 +14,11 @@ use Rattle.rotation.specs.Steps.{key_order}
 use Rattle.rotation.proofs.Keys.{cmp-order, key_at_lem}
 use Rattle.rotation.proofs.compare_at.Goals as goal
 
--- what the x say and then the y is how the keys stand
-stand : (xs ys : List ℕ) (i j : ℕ) → length xs ≡ length ys
-    → ordering_then (nat_cmp (get_or xs i 0) (get_or xs j 0)) (nat_cmp (get_or ys i 0) (get_or ys j 0)) ≡ key_order (key_at (keys_of xs ys) i) (key_at (keys_of xs ys) j)
-stand xs ys i j e = cmp-order _ _ ∙ (λ k. key_order (sym (key_at_lem xs ys i e) k) (sym (key_at_lem xs ys j e) k))
-
--- how the x stand, with the y behind it, is how the keys stand
+-- how the x stand, and the y behind them, is how the keys stand
 told : (xs ys : List ℕ) (i j : ℕ) (o : Ordering) → length xs ≡ length ys → o ≡ nat_cmp (get_or xs i 0) (get_or xs j 0)
     → ordering_then o (nat_cmp (get_or ys i 0) (get_or ys j 0)) ≡ key_order (key_at (keys_of xs ys) i) (key_at (keys_of xs ys) j)
-told xs ys i j o e x = ap (λ p. ordering_then p (nat_cmp (get_or ys i 0) (get_or ys j 0))) x ∙ stand xs ys i j e
+told xs ys i j o e x = ap (λ p. ordering_then p (nat_cmp (get_or ys i 0) (get_or ys j 0))) x ∙ cmp-order _ _
+    ∙ (λ k. key_order (sym (key_at_lem xs ys i e) k) (sym (key_at_lem xs ys j e) k))
 
 pub returns-then-xs-i : goal.returns-then-xs-i
 returns-then-xs-i c = let a = c.args in told a.xs.now a.ys.now a.i a.j Less c.requires.0 (nat_cmp_is _ _ Less c.if-xs-i.true)
