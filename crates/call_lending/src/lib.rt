@@ -2,10 +2,12 @@
 // set to be.
 #![tactic(auto)]
 
-ghost use Rattle.std.specs.Prelude.{◌≡◌, ◌+◌, ◌*◌, ◌≤◌, length, min};
+ghost use Rattle.std.specs.Prelude.{◌≡◌, ◌+◌, ◌*◌, ◌≤◌, length, min, is_some};
 ghost use Rattle.rules.specs.Limits.{limits};
 ghost use Rattle.tables.specs.Regions.{least_floats, least_numbers, least_stars, least_marks, least_ids};
 ghost use Rattle.call_lending.specs.Lent.{IsLent};
+
+mod tests;
 
 use call_list::Table;
 use tables::{FLOATS, IDS, MARKS, MAX_HALF_EDGES, NUMBERS, PlanarGraph, STARS};
@@ -108,7 +110,9 @@ pub struct SharedLists<'a> {
 }
 
 // The slice that holds a state table, where there is a table.
-pub fn slice_of(table: Option<Table>) -> Option<Slice> {
+pub fn slice_of(table: Option<Table>) -> Option<Slice>
+    ensures { is_some result ≡ is_some table }
+{
     match table? {
         Table::X | Table::Y | Table::Z | Table::Segments => Some(Slice::Floats),
         Table::Sources | Table::Targets | Table::ListPlaces | Table::Links => Some(Slice::Numbers),

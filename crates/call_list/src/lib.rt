@@ -5,6 +5,7 @@
 mod lines;
 mod numbers;
 mod state_table;
+mod tests;
 mod words;
 
 use geometry::Line3D;

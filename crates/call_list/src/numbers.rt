@@ -1,6 +1,6 @@
 // Numbers as they are written: decimal with an optional minus sign, or `x` and the 16 hexadecimal
 // digits of a float's bits.
-ghost use Rattle.std.specs.Prelude.{◌≡◌, ℕ, ◌<◌, ◌≤◌, length, IsNone, Some};
+ghost use Rattle.std.specs.Prelude.{◌≡◌, ℕ, ◌<◌, ◌≤◌, length, is_some, IsNone, Some};
 ghost use Rattle.call_list.specs.Digits.{digit_of, Written};
 
 // A decimal keeps its sign apart, so that `-0` can be told from `0`.
@@ -75,7 +75,9 @@ fn whole_float(minus: bool, size: u64) -> f64 {
 }
 
 // The number as a float, where there is one.
-pub fn real_of(number: Option<Number>) -> Option<f64> {
+pub fn real_of(number: Option<Number>) -> Option<f64>
+    ensures { is_some result ≡ is_some number }
+{
     match number? {
         Number::Whole { minus, size } => Some(whole_float(minus, size)),
         Number::Bits(bits) => Some(segment_file::float_of(bits)),
