@@ -1,4 +1,4 @@
-// A table has its slice, so that `unwrap` asks nothing of who has one.
+// Who has a table gets its slice by `unwrap`, with nothing more to prove.
 use crate::{Slice, slice_of};
 use call_list::Table;
 

@@ -1,4 +1,4 @@
-// A number has a float, so that `unwrap` asks nothing of who has one.
+// Who has a number gets its float by `unwrap`, with nothing more to prove.
 use crate::{Number, real_of};
 
 #[test]
